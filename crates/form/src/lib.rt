@@ -1,0 +1,1 @@
+// The line form as definitions (specs/) and its listing (proofs/); no functions.

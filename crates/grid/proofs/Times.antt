@@ -1,0 +1,85 @@
+-- The lattice of times.
+use Prim.Native.Nat.{ℕ, zero, suc, _+_, _*_, _/_, _%_, _≤_, _<_, max, min}
+use mathlib.Core.Bool.{Bool, true, false, cond, _&&_, _||_, not}
+use mathlib.Core.Path.{_≡_, refl, sym, _∙_, ap, ap₂}
+use mathlib.Core.Logic.{_↔_}
+use native.Mathlib.Omega.{arith}
+use native.Mathlib.Nat.{max-le, le-min, le-trans}
+use lib.Dec.{T, leb, ltb, eqb, leb→le, le→leb}
+use borrow.Author.Tests.{leb-true, le-leb}
+use Rattle.grid.proofs.Tests.{and-l, and-r, and-i, same-test}
+use Rattle.grid.specs.Times.{span, hi, lo, at, join, meet, below}
+
+-- s is at or below t, as a fact
+pub record Below (s t : ℕ) : Type 0 where
+  pub first : hi s ≤ hi t
+  pub second : lo s ≤ lo t
+
+pub ext : (s t : ℕ) → hi s ≡ hi t → lo s ≡ lo t → s ≡ t
+unfolding hi lo
+ext s t p q = omega arith
+
+pub hi-at : (a b : ℕ) → b < span → hi (at a b) ≡ a
+unfolding hi at
+hi-at a b h = omega arith
+
+pub lo-at : (a b : ℕ) → b < span → lo (at a b) ≡ b
+unfolding lo at
+lo-at a b h = omega arith
+
+pub lo-lt : (t : ℕ) → lo t < span
+unfolding lo
+lo-lt t = omega arith
+
+pub hi-join : (s t : ℕ) → hi (join s t) ≡ max (hi s) (hi t)
+unfolding join
+hi-join s t = hi-at (max (hi s) (hi t)) (max (lo s) (lo t)) (omega (arith, lo-lt s, lo-lt t))
+
+pub lo-join : (s t : ℕ) → lo (join s t) ≡ max (lo s) (lo t)
+unfolding join
+lo-join s t = lo-at (max (hi s) (hi t)) (max (lo s) (lo t)) (omega (arith, lo-lt s, lo-lt t))
+
+pub hi-meet : (s t : ℕ) → hi (meet s t) ≡ min (hi s) (hi t)
+unfolding meet
+hi-meet s t = hi-at (min (hi s) (hi t)) (min (lo s) (lo t)) (omega (arith, lo-lt s, lo-lt t))
+
+pub lo-meet : (s t : ℕ) → lo (meet s t) ≡ min (lo s) (lo t)
+unfolding meet
+lo-meet s t = lo-at (min (hi s) (hi t)) (min (lo s) (lo t)) (omega (arith, lo-lt s, lo-lt t))
+
+-- (i) the join is the least upper bound
+pub join-upper-l : (s t : ℕ) → Below s (join s t)
+join-upper-l s t = record { first = rw hi-join (omega arith); second = rw lo-join (omega arith) }
+
+pub join-least : (s t u : ℕ) → Below s u → Below t u → Below (join s t) u
+join-least s t u p q = record { first = rw hi-join (omega arith); second = rw lo-join (omega arith) }
+
+pub join-comm : (s t : ℕ) → join s t ≡ join t s
+join-comm s t = ext (join s t) (join t s) (simp hi-join (omega arith)) (simp lo-join (omega arith))
+
+pub join-assoc : (s t u : ℕ) → join (join s t) u ≡ join s (join t u)
+join-assoc s t u = ext _ _ (simp hi-join (omega arith)) (simp lo-join (omega arith))
+
+-- (ii) advancing by m is not seen from r at or above m
+pub advance-below : (x m r : ℕ) → Below m r → Below x r ↔ Below (join x m) r
+advance-below x m r h = (λ p. join-least x m r p h, λ p. record { first = omega (arith, hi-join x m); second = omega (arith, lo-join x m) })
+
+pub advance-join : (x m r : ℕ) → Below m r → join x r ≡ join (join x m) r
+advance-join x m r h = ext _ _ (simp hi-join (omega arith)) (simp lo-join (omega arith))
+
+-- the test and the fact
+pub below-true : (s t : ℕ) → below s t ≡ true → Below s t
+unfolding below
+below-true s t e = record { first = leb-true _ _ (and-l _ _ e); second = leb-true _ _ (and-r (leb (hi s) (hi t)) _ e) }
+
+pub true-below : (s t : ℕ) → Below s t → below s t ≡ true
+unfolding below
+true-below s t h = and-i _ _ (le-leb _ _ (h .first)) (le-leb _ _ (h .second))
+
+pub below-advance : (x m r : ℕ) → Below m r → below (join x m) r ≡ below x r
+below-advance x m r h = same-test _ _ (λ e. true-below x r (advance-below x m r h .1 (below-true _ _ e))) (λ e. true-below _ _ (advance-below x m r h .0 (below-true _ _ e)))
+
+-- the order is ascending: at or below gives at most
+pub below-le : (s t : ℕ) → Below s t → s ≤ t
+unfolding hi lo
+below-le s t h = omega arith

@@ -1,0 +1,5 @@
+pub mod Lists
+pub mod Times
+pub mod Frontiers
+pub mod Consolidate
+pub mod Records

@@ -1,0 +1,1 @@
+// Times, frontiers, lists and consolidation: definitions (specs/) and no functions.

@@ -1,0 +1,10 @@
+pub mod Histories
+pub mod Wave
+pub mod Tiles
+pub mod Discover
+pub mod Backends
+pub mod Retire
+pub mod Call
+pub mod Memory
+pub mod Right
+pub mod Cases
