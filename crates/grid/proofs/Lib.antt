@@ -1,5 +1,6 @@
 pub mod Tests
 pub mod Lists
 pub mod Times
+pub mod Frontiers
 pub mod Sums
 pub mod Consolidate

@@ -67,6 +67,15 @@ advance-below x m r h = (λ p. join-least x m r p h, λ p. record { first = omeg
 pub advance-join : (x m r : ℕ) → Below m r → join x r ≡ join (join x m) r
 advance-join x m r h = ext _ _ (simp hi-join (omega arith)) (simp lo-join (omega arith))
 
+pub below-refl : (t : ℕ) → Below t t
+below-refl t = record { first = omega arith; second = omega arith }
+
+pub below-trans : (s t u : ℕ) → Below s t → Below t u → Below s u
+below-trans s t u p q = record { first = omega arith; second = omega arith }
+
+pub below-antisym : (s t : ℕ) → Below s t → Below t s → s ≡ t
+below-antisym s t p q = ext s t (omega arith) (omega arith)
+
 -- the test and the fact
 pub below-true : (s t : ℕ) → below s t ≡ true → Below s t
 unfolding below
