@@ -437,9 +437,17 @@ heldBeyond = record {
       ((at 2 1 ∷ []) ∷ []);
 }
 
+-- A wave whose heads are equal twice: the second history steps, and a buffer is emitted by ascending value.
+equalHeads : Case
+unfolding at
+equalHeads = record {
+  given = waves (((at 0 1, 1), pos 2) ∷ ((at 1 0, 2), pos 1) ∷ []) (((at 1 0, 8), pos 1) ∷ ((at 0 1, 9), pos 3) ∷ []);
+  gives = emitted (record { status = 0; emitted = ((at 0 1, (1, 9)), pos 6) ∷ ((at 1 1, (1, 8)), pos 2) ∷ ((at 1 0, (2, 8)), pos 1) ∷ ((at 1 1, (2, 9)), pos 3) ∷ [] });
+}
+
 unfoldable pub misleading : List Case
-unfolding mergedSeeds lateMeet quietJoins eachOnce zeroTotal windowed heldBeyond
-misleading = mergedSeeds ∷ lateMeet ∷ quietJoins ∷ eachOnce ∷ zeroTotal ∷ windowed ∷ heldBeyond ∷ []
+unfolding mergedSeeds lateMeet quietJoins eachOnce zeroTotal windowed heldBeyond equalHeads
+misleading = mergedSeeds ∷ lateMeet ∷ quietJoins ∷ eachOnce ∷ zeroTotal ∷ windowed ∷ heldBeyond ∷ equalHeads ∷ []
 
 -- ---- each status of the table, and which of several rows wins
 

@@ -31,6 +31,10 @@ pub record State : Type 0 where
   -- a limit was passed
   pub over : Bool
 
+-- all that remains to be replayed
+unfoldable pub remaining : State → List ℕ
+remaining s = s .seeds .ahead ++ (s .pending ++ (map timeOf (s .input .ahead) ++ (s .output .ahead ++ s .waiting)))
+
 -- "1. m is the meet of seeds and pending, absent if there are none. Seeds are the new run's own times. Input (old and new) and output are
 -- loaded joined with m. Input is a ValueHistory; seeds and output are TimeHistories, so their edits never cancel."
 unfoldable pub start : List ℕ → List ℕ → List Edit → List ℕ → State
@@ -148,9 +152,6 @@ acted upper n s =
     }
 
 -- "5. m becomes the meet of all that remains; tracked times are joined with it, equals removed. Go to 2."
-unfoldable pub remaining : State → List ℕ
-remaining s = s .seeds .ahead ++ (s .pending ++ (map timeOf (s .input .ahead) ++ (s .output .ahead ++ s .waiting)))
-
 unfoldable pub remeet : State → State
 remeet s =
     let m = meets (remaining s) none in
