@@ -1,6 +1,9 @@
 pub mod Tests
 pub mod Lists
 pub mod Times
+pub mod Meets
 pub mod Frontiers
 pub mod Sums
+pub mod Products
 pub mod Consolidate
+pub mod Sizes

@@ -5,9 +5,9 @@ use mathlib.Core.List.{List, [], _∷_, _++_, map}
 use mathlib.Core.Path.{_≡_, refl, sym, _∙_, ap, ap₂}
 use lib.Dec.{eqb, ltb, leb}
 use borrow.Author.Tests.{eqb-true}
-use Rattle.grid.specs.Lists.{any, keep, insert, sort}
+use Rattle.grid.specs.Lists.{any, every, keep, insert, sort}
 use Rattle.grid.specs.Times.{put, puts}
-use Rattle.grid.proofs.Tests.{by-test, clash, or-false-l, or-false-r}
+use Rattle.grid.proofs.Tests.{by-test, clash, and-l, and-r, and-i, or-false-l, or-false-r}
 
 pub data All {A : Type 0} (P : A → Type 0) : List A → Type 0 where
   nil : All P []
@@ -93,6 +93,14 @@ none-all f (x ∷ xs) e = cons (or-false-l (f x) (any f xs) e) (none-all f xs (o
 pub any-none : {A : Type 0} (f : A → Bool) (xs : List A) → All (λ x. f x ≡ false) xs → any f xs ≡ false
 any-none f [] h = refl
 any-none f (x ∷ xs) h = rw (head h, any-none f xs (tail h))
+
+pub every-all : {A : Type 0} (f : A → Bool) (xs : List A) → every f xs ≡ true → All (λ x. f x ≡ true) xs
+every-all f [] e = nil
+every-all f (x ∷ xs) e = cons (and-l (f x) (every f xs) e) (every-all f xs (and-r (f x) (every f xs) e))
+
+pub all-every : {A : Type 0} (f : A → Bool) {xs : List A} → All (λ x. f x ≡ true) xs → every f xs ≡ true
+all-every f nil = refl
+all-every f (cons {x = x} {xs = xs} p h) = and-i (f x) (every f xs) p (all-every f h)
 
 pub map-all : {A B : Type 0} {P : B → Type 0} (f : A → B) (xs : List A) → All P (map f xs) → All (λ x. P (f x)) xs
 map-all f [] h = nil

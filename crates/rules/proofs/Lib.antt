@@ -1,1 +1,4 @@
+pub mod Wave
+pub mod Order
 pub mod Cases
+pub mod Keys

@@ -7,4 +7,5 @@ pub mod Retire
 pub mod Call
 pub mod Memory
 pub mod Right
+pub mod Runs
 pub mod Cases
