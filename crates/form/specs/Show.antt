@@ -17,7 +17,7 @@ use Rattle.grid.specs.Records.{Row}
 use Rattle.rules.specs.Tiles.{Tile}
 use Rattle.rules.specs.Call.{Request, Fix, Answer, call}
 use Rattle.form.specs.Text.{ascii}
-use Rattle.form.specs.Read.{Asked, bad, asked, parse}
+use Rattle.form.specs.Read.{bad, asked, parse}
 
 -- the digits of n, at most k of them
 unfoldable pub digits : ℕ → ℕ → List ℕ

@@ -4,18 +4,17 @@
 -- tally p: the sum of the diffs of the entries that pass p. tally-consolidate: consolidation keeps every tally
 -- Canon: ascending, without zeros. canon-consolidate: consolidation gives that. canon-ext: such a list is known by its tallies
 -- consolidate-ext: lists of the same tallies consolidate to the same list
-use Prim.Native.Nat.{ℕ, zero, suc, _+_, _<_, _≤_}
-use mathlib.Core.Bool.{Bool, true, false, cond, _&&_, _||_, not}
-use mathlib.Core.List.{List, [], _∷_, _++_, map}
+use mathlib.Core.Bool.{Bool, true, false, cond, _&&_, not}
+use mathlib.Core.List.{List, [], _∷_}
 use mathlib.Core.Path.{_≡_, refl, sym, _∙_, ap, ap₂}
 use native.Mathlib.Omega.{arith}
-use lib.Dec.{eqb, ltb}
-use lib.IntN.{ℤ, pos, negsuc, _+ℤ_, negℤ, +ℤ-assoc, +ℤ-comm, +ℤ-idl, +ℤ-idr, +ℤ-invl}
+use lib.Dec.{ltb}
+use lib.IntN.{ℤ, pos, negsuc, _+ℤ_, negℤ, +ℤ-assoc, +ℤ-idl, +ℤ-idr, +ℤ-invl}
 use borrow.Author.Tests.{eqb-true, ltb-true, ltb-false, lt-ltb, le-ltb, not-true}
 use Rattle.grid.specs.Consolidate.{isZero, lex, unlessZero, add, consolidate}
 use mathlib.Core.Logic.{_⊎_, inl, inr, ⊎-elim}
-use Rattle.grid.proofs.Tests.{by-test, clash, and-l, and-r, or-cases, or-false-l, or-l}
-use Rattle.grid.proofs.Lists.{All, nil, cons, head, tail, all-imp}
+use Rattle.grid.proofs.Tests.{by-test, clash, and-l, and-r, or-false-l, or-l}
+use Rattle.grid.proofs.Lists.{All, nil, cons, all-imp}
 use Rattle.grid.proofs.Sums.{sum, left-comm}
 
 -- ---- orders

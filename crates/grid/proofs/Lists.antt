@@ -1,9 +1,16 @@
 -- A fact of every element, under the operations on lists. `All` is a data type, so that antt finds the list and the fact in an argument's type.
-use Prim.Native.Nat.{ℕ, zero, suc, _+_, _<_, _≤_}
-use mathlib.Core.Bool.{Bool, true, false, cond, _&&_, _||_, not}
+--
+-- all-append, all-l, all-r; all-keep, keep-all, kept-all, all-split; all-insert, insert-all, all-sort, sort-all; all-map, map-all; all-put, put-all,
+-- all-puts, puts-all: the fact goes through an operation (all-X), or comes back from its result (X-all)
+-- none-all, any-none, every-all, all-every: a test of no element, of every element. all-at: the fact, at one element
+-- keep-length: what is kept is no longer
+use Prim.Native.Nat.{ℕ, _≤_}
+use mathlib.Core.Bool.{Bool, true, false, not}
 use mathlib.Core.List.{List, [], _∷_, _++_, map}
-use mathlib.Core.Path.{_≡_, refl, sym, _∙_, ap, ap₂}
-use lib.Dec.{eqb, ltb, leb}
+use mathlib.Core.Path.{_≡_, refl}
+use native.Mathlib.Omega.{arith}
+use lib.Dec.{eqb, ltb}
+use lib.ListN.{length}
 use borrow.Author.Tests.{eqb-true}
 use Rattle.grid.specs.Lists.{any, every, keep, insert, sort}
 use Rattle.grid.specs.Times.{put, puts}
@@ -101,6 +108,16 @@ every-all f (x ∷ xs) e = cons (and-l (f x) (every f xs) e) (every-all f xs (an
 pub all-every : {A : Type 0} (f : A → Bool) {xs : List A} → All (λ x. f x ≡ true) xs → every f xs ≡ true
 all-every f nil = refl
 all-every f (cons {x = x} {xs = xs} p h) = and-i (f x) (every f xs) p (all-every f h)
+
+-- what holds of every element holds of an element
+pub all-at : {P : ℕ → Type 0} (t : ℕ) (xs : List ℕ) → All P xs → any (eqb t) xs ≡ true → P t
+all-at t [] h e = clash false e refl
+all-at {P} t (x ∷ xs) h e =
+    by-test (eqb t x) (λ b. rw (eqb-true t x b) (head h)) (λ b. let k : any (eqb t) xs ≡ true = rw b at e in all-at t xs (tail h) k)
+
+pub keep-length : {A : Type 0} (p : A → Bool) (xs : List A) → length (keep p xs) ≤ length xs
+keep-length p [] = omega arith
+keep-length p (x ∷ xs) = by-test (p x) (λ e. rw e (omega (arith, keep-length p xs))) (λ e. rw e (omega (arith, keep-length p xs)))
 
 pub map-all : {A B : Type 0} {P : B → Type 0} (f : A → B) (xs : List A) → All P (map f xs) → All (λ x. P (f x)) xs
 map-all f [] h = nil

@@ -1,9 +1,8 @@
 -- Sums over a list of an integer-valued function.
-use Prim.Native.Nat.{ℕ, zero, suc, _+_}
-use mathlib.Core.Bool.{Bool, true, false, cond, _&&_, _||_, not}
+use mathlib.Core.Bool.{Bool, cond}
 use mathlib.Core.List.{List, [], _∷_, _++_, map}
-use mathlib.Core.Path.{_≡_, refl, sym, _∙_, ap, ap₂}
-use lib.IntN.{ℤ, pos, negsuc, _+ℤ_, negℤ, +ℤ-assoc, +ℤ-comm, +ℤ-idl, +ℤ-idr, +ℤ-invr, negℤ-+ℤ}
+use mathlib.Core.Path.{_≡_, refl, sym, _∙_, ap}
+use lib.IntN.{ℤ, pos, _+ℤ_, negℤ, +ℤ-assoc, +ℤ-comm, +ℤ-idl, negℤ-+ℤ}
 use Rattle.grid.specs.Lists.{keep, insert, sort}
 use Rattle.grid.proofs.Tests.{by-test}
 

@@ -1,11 +1,10 @@
 -- The lattice of times.
-use Prim.Native.Nat.{ℕ, zero, suc, _+_, _*_, _/_, _%_, _≤_, _<_, max, min}
-use mathlib.Core.Bool.{Bool, true, false, cond, _&&_, _||_, not}
-use mathlib.Core.Path.{_≡_, refl, sym, _∙_, ap, ap₂}
+use Prim.Native.Nat.{ℕ, _≤_, _<_, max, min}
+use mathlib.Core.Bool.{true}
+use mathlib.Core.Path.{_≡_}
 use mathlib.Core.Logic.{_↔_}
 use native.Mathlib.Omega.{arith}
-use native.Mathlib.Nat.{max-le, le-min, le-trans}
-use lib.Dec.{T, leb, ltb, eqb, leb→le, le→leb}
+use lib.Dec.{leb}
 use borrow.Author.Tests.{leb-true, le-leb}
 use Rattle.grid.proofs.Tests.{and-l, and-r, and-i, same-test}
 use Rattle.grid.specs.Times.{span, hi, lo, at, join, meet, below}

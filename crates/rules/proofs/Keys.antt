@@ -3,24 +3,19 @@
 -- tally-editsOf: the tallies of a key's edits are sums over the run
 -- tally-together: old and new input together have the tallies of the two
 -- tally-fixesAll: a key's edits among all corrections have the tallies of the corrections that were made for it
-use Prim.Native.Nat.{ℕ, _<_}
-use mathlib.Core.Bool.{Bool, true, false, cond, _&&_, _||_, not}
+use Prim.Native.Nat.{ℕ}
+use mathlib.Core.Bool.{Bool, true, false, cond}
 use mathlib.Core.List.{List, [], _∷_, _++_, map}
 use mathlib.Core.Path.{_≡_, refl, sym, _∙_, ap, ap₂}
-use lib.Dec.{eqb, ltb}
-use lib.IntN.{ℤ, pos, _+ℤ_, +ℤ-idl, +ℤ-idr}
-use Rattle.grid.specs.Lists.{any, keep, sort, flat}
-use Rattle.grid.specs.Times.{put, puts}
-use Rattle.grid.specs.Records.{Row, before}
-use Rattle.grid.proofs.Tests.{by-test}
+use lib.Dec.{eqb}
+use lib.IntN.{ℤ, pos, _+ℤ_}
+use Rattle.grid.specs.Lists.{keep, flat}
+use Rattle.grid.specs.Records.{Row}
 use Rattle.grid.proofs.Sums.{sum, sum-append, sum-sort, sum-ext, sum-map, sum-keep, sum-zero}
 use Rattle.grid.proofs.Consolidate.{share, tally}
-use Rattle.rules.specs.Histories.{Edit}
 use Rattle.rules.specs.Tiles.{Tile}
-use Rattle.rules.specs.Backends.{Sums}
-use Rattle.rules.specs.Retire.{Round, dated}
-use Rattle.rules.specs.Call.{Request, Fix, Done, together, editsOf, changed, fixesOf, fixesAll, pendedAll}
-use Rattle.rules.specs.Runs.{corrections}
+use Rattle.rules.specs.Retire.{Round, dated, corrections}
+use Rattle.rules.specs.Call.{Request, Fix, Done, together, editsOf, fixesOf, fixesAll}
 
 module _ (p : ℕ × ℕ → Bool) (k : ℕ) where
   -- what a record adds to the tally of the key's edits

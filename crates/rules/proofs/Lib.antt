@@ -1,4 +1,8 @@
 pub mod Wave
+pub mod Tiles
 pub mod Order
-pub mod Cases
+pub mod Statuses
+pub mod Memory
+pub mod Width
 pub mod Keys
+pub mod Cases

@@ -9,7 +9,6 @@ use Prim.Native.Nat.{ℕ}
 use mathlib.Core.Bool.{Bool, cond, _&&_, _||_, not}
 use mathlib.Core.List.{List, [], _∷_, _++_, map}
 use lib.Dec.{leb, ltb, eqb}
-use lib.IntN.{ℤ}
 use lib.ListN.{length}
 use Rattle.grid.specs.Lists.{any, every, keep, isEmpty, sort, ascending, flat}
 use Rattle.grid.specs.Times.{puts}

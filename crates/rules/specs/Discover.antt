@@ -4,7 +4,7 @@
 -- next: step 2. interesting: step 3. made, acted: steps 3 and 4. remeet: step 5. step: all of them at n
 -- start: step 1. run: at most k steps. discover: the whole
 use Prim.Native.Nat.{ℕ, zero, suc, _+_}
-use mathlib.Core.Bool.{Bool, true, false, cond, _&&_, _||_, not}
+use mathlib.Core.Bool.{Bool, false, cond, _&&_, _||_, not}
 use mathlib.Core.List.{List, [], _∷_, _++_, map}
 use mathlib.Core.Option.{Option, none, some}
 use lib.Dec.{ltb, eqb}
@@ -12,7 +12,7 @@ use lib.ListN.{length, take}
 use Rattle.grid.specs.Lists.{any, keep, front, past}
 use Rattle.grid.specs.Times.{join, below, joined, meets, put, puts}
 use Rattle.grid.specs.Frontiers.{beyond, shortOf}
-use Rattle.rules.specs.Histories.{History, Edit, TimeHistory, ValueHistory, timeOf, loadTimes, loadEdits, loaded, stepped, moved, advanceTimes, advanceEdits}
+use Rattle.rules.specs.Histories.{Edit, TimeHistory, ValueHistory, timeOf, loadTimes, loadEdits, loaded, stepped, moved, advanceTimes, advanceEdits}
 
 -- the most moments, waiting joins and pended times of a key
 abbrev pub mostMoments : ℕ

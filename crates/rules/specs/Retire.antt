@@ -6,14 +6,13 @@
 -- seen t es: what is seen of es at t: its diffs at times at or below t, summed by value
 -- crosses: whether a key with these sums crosses
 -- Round: a key's part in a round. settle: its rounds, one for each moment
--- dated t c: corrections as edits at t
+-- dated t c: corrections as edits at t. corrections: those of all rounds
 -- windows: a list cut into parts of the width. either, roundsOf: in which rounds some key of a window crossed
 -- crossings: over all windows
 use Prim.Native.Nat.{ℕ, zero, suc}
 use mathlib.Core.Bool.{Bool, cond, _&&_, _||_, not}
 use mathlib.Core.List.{List, [], _∷_, _++_, map}
 use lib.Dec.{ltb}
-use lib.IntN.{ℤ}
 use lib.ListN.{length, take, drop}
 use Rattle.grid.specs.Lists.{keep, isEmpty, flat}
 use Rattle.grid.specs.Times.{below}
@@ -47,6 +46,9 @@ settle mode input output [] = []
 settle mode input output (t ∷ ts) =
     let r = roundAt mode input output t in
     r ∷ settle mode input (output ++ dated t (r .fixes)) ts
+
+unfoldable pub corrections : List Round → List Edit
+corrections rs = flat (λ (r : Round). dated (r .time) (r .fixes)) rs
 
 abbrev pub windows : {A : Type 0} → ℕ → ℕ → List A → List (List A)
 windows zero width xs = []

@@ -11,10 +11,9 @@ use mathlib.Core.List.{List, [], _∷_, _++_, map}
 use mathlib.Core.Path.{_≡_}
 use lib.Dec.{leb, eqb}
 use lib.ListN.{length, take, getD}
-use Rattle.grid.specs.Lists.{any, flat}
+use Rattle.grid.specs.Lists.{any}
 use Rattle.grid.specs.Frontiers.{beyond}
-use Rattle.rules.specs.Histories.{Edit}
-use Rattle.rules.specs.Retire.{Round, dated}
+use Rattle.rules.specs.Retire.{Round, corrections}
 use Rattle.rules.specs.Call.{Request, Answer, Done, together, editsOf, work, call}
 use Rattle.rules.specs.Right.{Right}
 
@@ -23,10 +22,6 @@ accepted a = leb (a .status) 2
 
 unfoldable pub lists : List (ℕ × ℕ) → ℕ → ℕ → Bool
 lists ps k t = any (λ p. eqb k (p .0) && eqb t (p .1)) ps
-
--- the corrections of rounds, as edits
-unfoldable pub corrections : List Round → List Edit
-corrections rs = flat (λ (r : Round). dated (r .time) (r .fixes)) rs
 
 pub data Run : List (ℕ × ℕ) → List ℕ → List Request → Type 0 where
   ends : {ps : List (ℕ × ℕ)} {lower : List ℕ} → Run ps lower []

@@ -18,7 +18,7 @@ use lib.IntN.{ℤ, natAbs, _*ℤ_}
 use lib.ListN.{length, take, drop}
 use Rattle.grid.specs.Lists.{every, flat}
 use Rattle.grid.specs.Times.{join, meets}
-use Rattle.rules.specs.Histories.{History, Edit, ValueHistory, timeOf, valueOf, loadEdits, loaded, advanceEdits}
+use Rattle.rules.specs.Histories.{Edit, ValueHistory, timeOf, valueOf, loadEdits, loaded, advanceEdits}
 
 abbrev pub Emission : Type 0
 Emission = (ℕ × (ℕ × ℕ)) × ℤ
