@@ -6,4 +6,5 @@ pub mod Frontiers
 pub mod Sums
 pub mod Products
 pub mod Consolidate
+pub mod Ascending
 pub mod Sizes

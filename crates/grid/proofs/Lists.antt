@@ -2,8 +2,9 @@
 --
 -- all-append, all-l, all-r; all-keep, keep-all, kept-all, all-split; all-insert, insert-all, all-sort, sort-all; all-map, map-all; all-put, put-all,
 -- all-puts, puts-all: the fact goes through an operation (all-X), or comes back from its result (X-all)
--- none-all, any-none, every-all, all-every: a test of no element, of every element. all-at: the fact, at one element
--- keep-length: what is kept is no longer
+-- none-all, any-none, every-all, all-every: a test of no element, of every element. all-at: the fact, at one element.
+-- all-in: each element is one of the list. all-flat: of lists one after the other
+-- keep-none: nothing is kept where none passes. keep-length: what is kept is no longer
 use Prim.Native.Nat.{ℕ, _≤_}
 use mathlib.Core.Bool.{Bool, true, false, not}
 use mathlib.Core.List.{List, [], _∷_, _++_, map}
@@ -11,10 +12,10 @@ use mathlib.Core.Path.{_≡_, refl}
 use native.Mathlib.Omega.{arith}
 use lib.Dec.{eqb, ltb}
 use lib.ListN.{length}
-use borrow.Author.Tests.{eqb-true}
-use Rattle.grid.specs.Lists.{any, every, keep, insert, sort}
+use borrow.Author.Tests.{eqb-true, eq-eqb}
+use Rattle.grid.specs.Lists.{any, every, keep, insert, sort, flat}
 use Rattle.grid.specs.Times.{put, puts}
-use Rattle.grid.proofs.Tests.{by-test, clash, and-l, and-r, and-i, or-false-l, or-false-r}
+use Rattle.grid.proofs.Tests.{by-test, clash, and-l, and-r, and-i, or-l, or-r, or-false-l, or-false-r}
 
 pub data All {A : Type 0} (P : A → Type 0) : List A → Type 0 where
   nil : All P []
@@ -114,6 +115,18 @@ pub all-at : {P : ℕ → Type 0} (t : ℕ) (xs : List ℕ) → All P xs → any
 all-at t [] h e = clash false e refl
 all-at {P} t (x ∷ xs) h e =
     by-test (eqb t x) (λ b. rw (eqb-true t x b) (head h)) (λ b. let k : any (eqb t) xs ≡ true = rw b at e in all-at t xs (tail h) k)
+
+pub all-in : (xs : List ℕ) → All (λ x. any (eqb x) xs ≡ true) xs
+all-in [] = nil
+all-in (x ∷ xs) = cons (or-l (eqb x x) (any (eqb x) xs) (eq-eqb x x refl)) (all-imp (λ y e. or-r (eqb y x) (any (eqb y) xs) e) (all-in xs))
+
+pub all-flat : {A B : Type 0} {P : B → Type 0} (f : A → List B) {xs : List A} → All (λ x. All P (f x)) xs → All P (flat f xs)
+all-flat f nil = nil
+all-flat f (cons p h) = all-append p (all-flat f h)
+
+pub keep-none : {A : Type 0} (p : A → Bool) {xs : List A} → All (λ x. p x ≡ false) xs → keep p xs ≡ []
+keep-none p nil = refl
+keep-none p (cons e h) = rw (e, keep-none p h)
 
 pub keep-length : {A : Type 0} (p : A → Bool) (xs : List A) → length (keep p xs) ≤ length xs
 keep-length p [] = omega arith

@@ -1,20 +1,22 @@
 -- Times that are not seen from a time, and meets that may be absent.
 --
 -- Unseen t x: x is not at or below t. Under m t: the meet m is there, and at or below t
+-- any-unseen, unseen-any, any-below: of a list of times, by the test whether any is at or below t
 -- meets-under: the meet of a list is under each of its times. meets-most: and what is under each of them is under it
 -- joined-below: joining with a meet is not seen from a time that the meet is under
 -- join-above: the join with a time that is not seen ascends
 use Prim.Native.Nat.{ℕ, _<_, _≤_}
-use mathlib.Core.Bool.{false}
+use mathlib.Core.Bool.{true, false, false≢true}
 use mathlib.Core.List.{List, [], _∷_}
 use mathlib.Core.Option.{Option, none, some}
 use mathlib.Core.Path.{_≡_}
 use native.Mathlib.Omega.{arith}
 use lib.Dec.{ltb}
 use borrow.Author.Tests.{ltb-true, ltb-false}
+use Rattle.grid.specs.Lists.{any}
 use Rattle.grid.specs.Times.{hi, lo, join, meet, below, joined, meetOnto, meets}
 use Rattle.grid.proofs.Tests.{by-test, clash, same-test}
-use Rattle.grid.proofs.Lists.{All, nil, cons, head, tail, all-imp}
+use Rattle.grid.proofs.Lists.{All, nil, cons, head, tail, all-imp, none-all, any-none}
 use Rattle.grid.proofs.Times.{Below, below-true, true-below, below-le, below-trans, below-refl, join-upper-l, join-least, hi-join, lo-join, hi-meet, lo-meet}
 
 abbrev pub Unseen : ℕ → ℕ → Type 0
@@ -29,6 +31,17 @@ unseen-false t x f = by-test (below x t) (λ e. absurd (f (below-true x t e))) (
 
 pub false-unseen : (t x : ℕ) → below x t ≡ false → Unseen t x
 false-unseen t x e h = clash (below x t) (true-below x t h) e
+
+-- and of a list: none of it is seen, or some of it is
+pub any-unseen : (t : ℕ) (xs : List ℕ) → any (λ x. below x t) xs ≡ false → All (Unseen t) xs
+any-unseen t xs e = all-imp (λ x f. false-unseen t x f) (none-all (λ x. below x t) xs e)
+
+pub unseen-any : (t : ℕ) {xs : List ℕ} → All (Unseen t) xs → any (λ x. below x t) xs ≡ false
+unseen-any t {xs} h = any-none (λ x. below x t) xs (all-imp (λ x f. unseen-false t x f) h)
+
+pub any-below : {C : Type 0} (t : ℕ) (xs : List ℕ) → any (λ x. below x t) xs ≡ true → All (λ x. Below x t → C) xs → C
+any-below t [] e h = absurd (false≢true e)
+any-below t (x ∷ xs) e h = by-test (below x t) (λ c. head h (below-true x t c)) (λ c. any-below t xs (rw c at e) (tail h))
 
 -- what comes later is not seen
 pub later-unseen : {t x : ℕ} → t < x → Unseen t x

@@ -1,6 +1,6 @@
 -- What memory holds after a call.
 --
--- Fits, call-fits: results fit into result memory
+-- Fits, call-fits: results fit into result memory. call-frontier: the next frontier is one
 -- memory-untouched: at 11 to 17. work-cleared, workDiffs-cleared: work memory at the others. Cleared, lent-cleared: at 18 and 19
 -- SameLengths, lent-lengths: a call changes no slice's length
 -- lent-well, lent-ill, lent-row-11: a lent call is answered as its request is, or with 11
@@ -16,9 +16,10 @@ use lib.ListN.{length, replicate, length-append, length-map, length-replicate, r
 use lib.IntN.{pos}
 use borrow.Author.Tests.{eqb-true, eqb-false, le-leb, lt-leb, leb-true, ltb-false}
 use Rattle.grid.specs.Lists.{any, flat, padded}
-use Rattle.grid.proofs.Tests.{by-test, and-l, and-r, or-false-l, or-false-r}
+use Rattle.grid.proofs.Tests.{by-test, and-l, and-r, or-false-l, or-false-r, and-i}
+use Rattle.grid.proofs.Frontiers.{true-antichain, minimal-antichain}
 use Rattle.grid.proofs.Lists.{All, nil, cons}
-use Rattle.grid.specs.Frontiers.{mostTimes, isFrontier, minimal}
+use Rattle.grid.specs.Frontiers.{mostTimes, antichain, isFrontier, minimal}
 use Rattle.grid.specs.Records.{mostRecords, inRange}
 use Rattle.rules.specs.Tiles.{Tile, tiles}
 use Rattle.rules.proofs.Tiles.{Bounded, frontier-length, tiles-length, tiles-bounds}
@@ -94,6 +95,16 @@ module _ (q : Request) where
       by-test (eqb (call q .status) 0) (λ e. worked-fits (eqb-true _ _ e))
       (λ e. by-test (eqb (call q .status) 1) (λ k. let e1 = eqb-true _ _ k in rw (call-quiet q e1) (quiet-fits (call-rows q .row-1 .0 e1 .0)))
       (λ k. rw (call-refused q (omega (arith, eqb-false (call q .status) 0 e, eqb-false (call q .status) 1 k))) (refused-fits (call q .status))))
+
+-- the next frontier is one, at every status
+pub call-frontier : (q : Request) → isFrontier (call q .frontier) ≡ true
+unfolding isFrontier antichain quietAnswer refused
+call-frontier q =
+    by-test (eqb (call q .status) 0)
+    (λ e. and-i (leb (length (call q .frontier)) mostTimes) (antichain (call q .frontier)) (le-leb _ mostTimes (call-fits q .frontier-fits)) (rw (call-worked q (eqb-true _ _ e) .frontier-is) (true-antichain (minimal-antichain _))))
+    (λ e. by-test (eqb (call q .status) 1)
+    (λ k. let one = eqb-true _ _ k in rw (call-quiet q one) (frontiers q (call-rows q .row-1 .0 one .0 .holds-12) .2))
+    (λ k. rw (call-refused q (omega (arith, eqb-false (call q .status) 0 e, eqb-false (call q .status) 1 k)))))
 
 padded-length : {A : Type 0} (z : A) (n : ℕ) (xs : List A) → length xs ≤ n → length (padded z n xs) ≡ n
 padded-length z n xs h = rw (length-append xs (replicate (n - length xs) z), length-replicate (n - length xs) z) (omega arith)

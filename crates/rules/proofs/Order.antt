@@ -1,16 +1,21 @@
 -- What the replay of discover_times visits ascends: the four loaded lists and the waiting joins are ascending, so the least head is the least
 -- of all that remains, and what stepping moves is all that equals it.
 --
--- Rising: ascending, equal times allowed
+-- Rising: ascending, equal times allowed. ascending-rising: what ascends strictly rises
+-- front-past, front-past-all: a list is its front part and what is past it. all-front, all-past: what holds of a list holds of both
+-- front-passes, front-equal: the front part is what passes, what equals n. past-above, past-edits-above: of a rising list, what is past n is later
+-- moved-in: what moves is n
 -- Each P s: P holds of each of the five lists that remain. each-remaining, remaining-each: the same of `remaining s`
 -- Ordered: the five lists rise. start-ordered: at the start (check 15 for the pending list). step-ordered: after a step
--- next-least: the next time is at most each that remains. next-in: it remains
--- front-past: a list is its front part and what is past it. front-equal, past-above: past the front are later times only
+-- seeds-left, input-left, output-left: what a step leaves ahead is what is past n
+-- next-over: where there is a next time, no limit was passed. next-head, next-in: the next time is a head, so it remains
+-- next-least: it is at most each that remains. next-none: where there is none, nothing remains
+-- all-joins, joins-all, made-all: what holds of the joins of n, and of those that a step makes
 -- step-remaining, step-back, step-made: what remains after a step, from what remained and what was made, and back
--- run-keeps: what each step keeps, a run keeps
 -- made-above, step-above: joins that are made, and all that remains after the step, are later
+-- run-keeps: what each step keeps, a run keeps
 use Prim.Native.Nat.{ℕ, zero, suc, _<_, _≤_}
-use mathlib.Core.Bool.{Bool, true, false, cond, _&&_, not}
+use mathlib.Core.Bool.{Bool, true, false, cond, _&&_, not, false≢true}
 use mathlib.Core.List.{List, [], _∷_, _++_, map}
 use mathlib.Core.Option.{Option, none, some, Option·some-ne-none, Option·none-ne-some, Option·some-injective}
 use mathlib.Core.Logic.{⊎-elim}
@@ -99,6 +104,12 @@ module _ {A : Type 0} (p : A → Bool) where
 pub front-equal : {A : Type 0} (P : ℕ → Type 0) (f : A → ℕ) (n : ℕ) (xs : List A) → P n → All (λ x. P (f x)) (front (λ x. eqb n (f x)) xs)
 front-equal P f n xs p = all-imp (λ x e. rw (← eqb-true n (f x) e) p) (front-passes (λ x. eqb n (f x)) xs)
 
+-- what moved is n
+pub moved-in : (P : ℕ → Type 0) (n : ℕ) (xs : List ℕ) → moved (eqb n) xs ≡ true → All P xs → P n
+unfolding moved
+moved-in P n [] e h = absurd (false≢true e)
+moved-in P n (x ∷ xs) e h = by-test (eqb n x) (λ q. rw (eqb-true n x q) (head h)) (λ q. absurd (false≢true (rw q at e)))
+
 past-map : {A : Type 0} (f : A → ℕ) (n : ℕ) (xs : List A) → map f (past (λ x. eqb n (f x)) xs) ≡ past (eqb n) (map f xs)
 past-map f n [] = refl
 past-map f n (x ∷ xs) = by-test (eqb n (f x)) (λ e. rw (e, past-map f n xs)) (λ e. rw e)
@@ -177,16 +188,16 @@ start-ordered seeds pending input output r = record {
 }
 
 -- ---- the lists that a step leaves
-seeds-left : (n : ℕ) (s : State) → seedsPast n s .ahead ≡ past (eqb n) (s .seeds .ahead)
+pub seeds-left : (n : ℕ) (s : State) → seedsPast n s .ahead ≡ past (eqb n) (s .seeds .ahead)
 unfolding seedsPast stepped
 seeds-left n s = by-test (moved (eqb n) (s .seeds .ahead)) (λ e. rw e) (λ e. rw e)
 
 module _ (upper : List ℕ) (n : ℕ) (s : State) where
-  input-left : inputPast upper n s .ahead ≡ past (λ e. eqb n (timeOf e)) (s .input .ahead)
+  pub input-left : inputPast upper n s .ahead ≡ past (λ e. eqb n (timeOf e)) (s .input .ahead)
   unfolding inputPast stepped
   input-left = by-test (isMoment upper n s) (λ e. rw e) (λ e. rw e)
 
-  output-left : outputPast upper n s .ahead ≡ past (eqb n) (s .output .ahead)
+  pub output-left : outputPast upper n s .ahead ≡ past (eqb n) (s .output .ahead)
   unfolding outputPast stepped
   output-left = by-test (isMoment upper n s) (λ e. rw e) (λ e. rw e)
 

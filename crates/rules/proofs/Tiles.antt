@@ -15,11 +15,11 @@ use native.Mathlib.Omega.{arith}
 use lib.Dec.{eqb, leb}
 use lib.ListN.{length, getElem?}
 use borrow.Author.Tests.{eqb-true, eq-eqb, ne-eqb, leb-true}
-use Rattle.grid.specs.Lists.{any, every, keep, same}
+use Rattle.grid.specs.Lists.{any, every, same}
 use Rattle.grid.specs.Times.{below}
 use Rattle.grid.specs.Frontiers.{beyond, shortOf, antichain, isFrontier, allInserted, mostTimes}
 use Rattle.grid.proofs.Tests.{by-test, clash, and-l, and-r, or-l, or-r}
-use Rattle.grid.proofs.Lists.{All, nil, cons, every-all, all-at, all-imp, all-append, all-keep, all-map, all-both, none-all}
+use Rattle.grid.proofs.Lists.{All, nil, cons, keep-none, every-all, all-at, all-imp, all-append, all-keep, all-map, all-both, none-all}
 use Rattle.grid.proofs.Times.{below-true}
 use Rattle.grid.proofs.Frontiers.{beyond-up, short-down, Apart, Antichain, none, more, antichain-true, allInserted-beyond, allInserted-length}
 use Rattle.rules.specs.Tiles.{Tile, tiles, place, holder, tileOf}
@@ -59,10 +59,6 @@ call-run q e = from (q .held) e
     from (h ∷ later) n = tiles-run (q .lower) (q .upper) h later
 
 -- ---- the tile of a time
-keep-none : {A : Type 0} (p : A → Bool) {xs : List A} → All (λ x. p x ≡ false) xs → keep p xs ≡ []
-keep-none p nil = refl
-keep-none p (cons e h) = rw (e, keep-none p h)
-
 -- t in the tiles of held from lower to upper: its held time is the last one at or below it, and has a tile, between whose bounds t lies
 pub record Landed (lower upper held : List ℕ) (t : ℕ) : Type 0 where
   pub time : ℕ
