@@ -1,5 +1,7 @@
 pub mod Tests
 pub mod Lists
+pub mod Loops
+pub mod Slices
 pub mod Times
 pub mod Meets
 pub mod Frontiers

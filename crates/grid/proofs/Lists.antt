@@ -4,7 +4,7 @@
 -- all-puts, puts-all: the fact goes through an operation (all-X), or comes back from its result (X-all)
 -- none-all, any-none, every-all, all-every: a test of no element, of every element. all-at: the fact, at one element.
 -- all-in: each element is one of the list. all-flat: of lists one after the other
--- keep-none: nothing is kept where none passes. keep-length: what is kept is no longer
+-- keep-none, keep-each: what is kept where none passes, where each does. keep-length: what is kept is no longer
 use Prim.Native.Nat.{ℕ, _≤_}
 use mathlib.Core.Bool.{Bool, true, false, not}
 use mathlib.Core.List.{List, [], _∷_, _++_, map}
@@ -127,6 +127,10 @@ all-flat f (cons p h) = all-append p (all-flat f h)
 pub keep-none : {A : Type 0} (p : A → Bool) {xs : List A} → All (λ x. p x ≡ false) xs → keep p xs ≡ []
 keep-none p nil = refl
 keep-none p (cons e h) = rw (e, keep-none p h)
+
+pub keep-each : {A : Type 0} (p : A → Bool) {l : List A} → All (λ x. p x ≡ true) l → keep p l ≡ l
+keep-each p nil = refl
+keep-each p (cons {x = x} e h) = rw (e, keep-each p h)
 
 pub keep-length : {A : Type 0} (p : A → Bool) (xs : List A) → length (keep p xs) ≤ length xs
 keep-length p [] = omega arith

@@ -3,3 +3,4 @@ pub mod Times
 pub mod Frontiers
 pub mod Consolidate
 pub mod Records
+pub mod Slices

@@ -1,0 +1,3 @@
+pub mod Meets
+pub mod Fitted
+pub mod Frontiers
