@@ -17,7 +17,7 @@ use Rattle.grid.specs.Lists.{any}
 use Rattle.grid.specs.Times.{hi, lo, join, meet, below, joined, meetOnto, meets}
 use Rattle.grid.proofs.Tests.{by-test, clash, same-test}
 use Rattle.grid.proofs.Lists.{All, nil, cons, head, tail, all-imp, none-all, any-none}
-use Rattle.grid.proofs.Times.{Below, below-true, true-below, below-le, below-trans, below-refl, join-upper-l, join-least, hi-join, lo-join, hi-meet, lo-meet}
+use Rattle.grid.proofs.Times.{Below, below-true, true-below, below-le, below-trans, below-refl, join-upper-l, join-least, hi-join, lo-join, meet-lower-l, meet-lower-r, meet-greatest}
 
 abbrev pub Unseen : ℕ → ℕ → Type 0
 Unseen t x = Below x t → ⊥
@@ -72,17 +72,17 @@ under-trans (some m) s t a b = below-trans m s t a b
 
 under-meet : (m : Option ℕ) (s t : ℕ) → Under m s → Under m t → Under m (meet s t)
 under-meet none s t a b = a
-under-meet (some m) s t a b = omega (arith, hi-meet s t, lo-meet s t)
+under-meet (some m) s t a b = meet-greatest s t m a b
 
 under-head : (t : ℕ) (o : Option ℕ) → Under (some (meetOnto t o)) t
 unfolding meetOnto
 under-head t none = below-refl t
-under-head t (some m) = omega (arith, hi-meet t m, lo-meet t m)
+under-head t (some m) = meet-lower-l t m
 
 under-more : (t : ℕ) (o : Option ℕ) (x : ℕ) → Under o x → Under (some (meetOnto t o)) x
 unfolding meetOnto
 under-more t none x h = absurd h
-under-more t (some m) x h = omega (arith, hi-meet t m, lo-meet t m)
+under-more t (some m) x h = below-trans (meet t m) m x (meet-lower-r t m) h
 
 pub meets-under : (ts : List ℕ) → All (λ t. Under (meets ts none) t) ts
 unfolding meets

@@ -11,9 +11,6 @@ left-comm a b c = cc (+ℤ-assoc a b c, +ℤ-assoc b a c, +ℤ-comm a b)
 
 pub ruleset acℤ = (+ℤ-assoc, +ℤ-comm, left-comm)
 
-four : (a b c d : ℤ) → (a +ℤ b) +ℤ (c +ℤ d) ≡ (c +ℤ a) +ℤ (d +ℤ b)
-four a b c d = simp acℤ
-
 module _ {A : Type 0} where
   abbrev pub sum : (A → ℤ) → List A → ℤ
   sum f [] = pos 0

@@ -1,4 +1,10 @@
 -- The lattice of times.
+--
+-- Below: at or below, as a fact. below-true, true-below: the test and the fact. below-refl, below-trans, below-antisym: it is an order
+-- hi-at, lo-at, lo-lt, hi-join, lo-join, hi-meet, lo-meet: the parts of a time. ext: a time is known by them
+-- join-upper-l, join-least, join-comm: the join is the least time above both. meet-lower-l, meet-lower-r, meet-greatest: the meet is the greatest below both
+-- advance-below, advance-join: joining with m is not seen from a time at or above m, nor by a join with one
+-- below-le: at or below gives at most, in ascending order
 use Prim.Native.Nat.{ℕ, _≤_, _<_, max, min}
 use mathlib.Core.Bool.{true}
 use mathlib.Core.Path.{_≡_}
@@ -6,7 +12,7 @@ use mathlib.Core.Logic.{_↔_}
 use native.Mathlib.Omega.{arith}
 use lib.Dec.{leb}
 use borrow.Author.Tests.{leb-true, le-leb}
-use Rattle.grid.proofs.Tests.{and-l, and-r, and-i, same-test}
+use Rattle.grid.proofs.Tests.{and-l, and-r, and-i}
 use Rattle.grid.specs.Times.{span, hi, lo, at, join, meet, below}
 
 -- s is at or below t, as a fact
@@ -46,7 +52,7 @@ pub lo-meet : (s t : ℕ) → lo (meet s t) ≡ min (lo s) (lo t)
 unfolding meet
 lo-meet s t = lo-at (min (hi s) (hi t)) (min (lo s) (lo t)) (omega (arith, lo-lt s, lo-lt t))
 
--- (i) the join is the least upper bound
+-- the join is the least upper bound
 pub join-upper-l : (s t : ℕ) → Below s (join s t)
 join-upper-l s t = record { first = rw hi-join (omega arith); second = rw lo-join (omega arith) }
 
@@ -56,10 +62,17 @@ join-least s t u p q = record { first = rw hi-join (omega arith); second = rw lo
 pub join-comm : (s t : ℕ) → join s t ≡ join t s
 join-comm s t = ext (join s t) (join t s) (simp hi-join (omega arith)) (simp lo-join (omega arith))
 
-pub join-assoc : (s t u : ℕ) → join (join s t) u ≡ join s (join t u)
-join-assoc s t u = ext _ _ (simp hi-join (omega arith)) (simp lo-join (omega arith))
+-- the meet is the greatest lower bound
+pub meet-lower-l : (s t : ℕ) → Below (meet s t) s
+meet-lower-l s t = record { first = rw hi-meet (omega arith); second = rw lo-meet (omega arith) }
 
--- (ii) advancing by m is not seen from r at or above m
+pub meet-lower-r : (s t : ℕ) → Below (meet s t) t
+meet-lower-r s t = record { first = rw hi-meet (omega arith); second = rw lo-meet (omega arith) }
+
+pub meet-greatest : (s t u : ℕ) → Below u s → Below u t → Below u (meet s t)
+meet-greatest s t u p q = record { first = rw hi-meet (omega arith); second = rw lo-meet (omega arith) }
+
+-- advancing by m is not seen from r at or above m
 pub advance-below : (x m r : ℕ) → Below m r → Below x r ↔ Below (join x m) r
 advance-below x m r h = (λ p. join-least x m r p h, λ p. record { first = omega (arith, hi-join x m); second = omega (arith, lo-join x m) })
 
@@ -83,9 +96,6 @@ below-true s t e = record { first = leb-true _ _ (and-l _ _ e); second = leb-tru
 pub true-below : (s t : ℕ) → Below s t → below s t ≡ true
 unfolding below
 true-below s t h = and-i _ _ (le-leb _ _ (h .first)) (le-leb _ _ (h .second))
-
-pub below-advance : (x m r : ℕ) → Below m r → below (join x m) r ≡ below x r
-below-advance x m r h = same-test _ _ (λ e. true-below x r (advance-below x m r h .1 (below-true _ _ e))) (λ e. true-below _ _ (advance-below x m r h .0 (below-true _ _ e)))
 
 -- the order is ascending: at or below gives at most
 pub below-le : (s t : ℕ) → Below s t → s ≤ t

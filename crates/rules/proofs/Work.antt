@@ -3,7 +3,7 @@
 -- edits-append: a key's edits of two runs. edits-together: the same is seen of both together. times-edits: the times of its edits
 -- pending-ascends: its pending times ascend (check 15)
 -- done: the work on one key. doneOutput: the key's old output with its corrections
--- done-untouched, done-settled, done-right: what is right afterwards, at live times. done-right-short: at times short of upper (demand 3 of one key)
+-- done-settled, done-right: what is right afterwards, at live times. done-right-short: at times short of upper (demand 3 of one key)
 use Prim.Native.Nat.{ℕ}
 use mathlib.Core.Bool.{true, false}
 use mathlib.Core.List.{List, [], _∷_, _++_, map}
@@ -28,7 +28,7 @@ use Rattle.rules.proofs.Histories.{visible}
 use Rattle.rules.proofs.Retire.{seen-ext, visible-append, right-as, corrected}
 use Rattle.rules.proofs.Keys.{tally-together}
 use Rattle.rules.proofs.Settling.{Live, live-short}
-use Rattle.rules.proofs.Right.{found, untouched, settled, rightness}
+use Rattle.rules.proofs.Right.{found, settled, rightness}
 
 -- ---- a key's part of a run
 module _ (k : ℕ) where
@@ -105,9 +105,6 @@ module _ (q : Request) (k : ℕ) where
   ascends : check15 q ≡ true → ascending ltb pend ≡ true
   unfolding check15
   ascends c = pending-ascends k (q .pending) c
-
-  pub done-untouched : (t : ℕ) → touched q k t ≡ false → seen t doneOutput ≡ seen t out
-  done-untouched t e = ap (seen t) done-corrected ∙ untouched (q .mode) (q .upper) (map timeOf new) pend all out t (sym (touched-edits t) ∙ e)
 
   module _ {D : State → ℕ → Type 0} (live : Live (q .upper) D) (c : check15 q ≡ true) (o : done .found .over ≡ false) where
     -- the same of what was found over the key's edits
