@@ -2,6 +2,7 @@ pub mod Tests
 pub mod Lists
 pub mod Loops
 pub mod Slices
+pub mod Sort
 pub mod Times
 pub mod Meets
 pub mod Frontiers

@@ -1,0 +1,4 @@
+pub mod Squash
+pub mod Adding
+pub mod Entries
+pub mod Laws
