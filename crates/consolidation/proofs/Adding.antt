@@ -19,8 +19,9 @@ use mir.Val.{SFits, ofZ, toZ}
 use Rattle.grid.specs.Lists.{padded}
 use Rattle.grid.specs.Consolidate.{isZero}
 use Rattle.grid.proofs.Loops.{put-more, drop-more, map-more}
+use Rattle.grid.proofs.Sizes.{sizing-natAbs}
 use Rattle.slices.specs.Places.{diffEntry}
-use Rattle.slices.proofs.Signed.{back, natAbs-add, mag-le}
+use Rattle.grid.proofs.Signed.{back, mag-le}
 use Rattle.distinct.specs.Sets.{endsRun}
 use Rattle.consolidation.specs.Entries.{Entry, first, second, diff, entryAt, pairAt, samePair, mass, mostMass, Ready, Stored, Written, Front}
 use Rattle.consolidation.proofs.Squash.{key, squash}
@@ -117,7 +118,7 @@ module _ {a b : List ℕ} {d : List ℤ} {places firsts seconds : List ℕ} {dif
   sum-small =
       let s : natAbs sum + mass (map (diffEntry d) (drop i places)) ≤ mostMass = m .small in
       let e : mass (map (diffEntry d) (drop i places)) ≡ natAbs (getD d (getD places i 0) (pos 0)) + mass (map (diffEntry d) (drop (i + 1) places)) = mass-more a b d places i h in
-      let n : natAbs (sum +ℤ getD d (getD places i 0) (pos 0)) ≤ natAbs sum + natAbs (getD d (getD places i 0) (pos 0)) = natAbs-add sum (getD d (getD places i 0) (pos 0)) in
+      let n : natAbs (sum +ℤ getD d (getD places i 0) (pos 0)) ≤ natAbs sum + natAbs (getD d (getD places i 0) (pos 0)) = sizing-natAbs .plus sum (getD d (getD places i 0) (pos 0)) in
       omega arith
 
   rest-small : natAbs (pos 0) + mass (map (diffEntry d) (drop (i + 1) places)) ≤ mostMass

@@ -15,19 +15,15 @@ use borrow.Author.Tests.{eqb-true, eq-eqb, ne-eqb, ltb-true, ltb-false, lt-ltb, 
 use Rattle.grid.specs.Lists.{front, ascending}
 use Rattle.grid.specs.Times.{put}
 use Rattle.grid.proofs.Tests.{by-test, clash, and-l, and-r, and-i}
-use Rattle.grid.proofs.Lists.{nil, cons, all-imp}
 use Rattle.grid.proofs.Consolidate.{strict-ltb}
 use Rattle.grid.proofs.Loops.{all-getD, put-more, drop-more, ahead-more, ahead-set, ahead-getD}
+use Rattle.grid.proofs.Ascending.{ascending-rest, ascending-above}
 use Rattle.grid.proofs.Sort.{Sorted, none, more}
 use Rattle.distinct.specs.Sets.{Inserted}
 
 sorted-ascending : (l : List ℕ) → ascending ltb l ≡ true → Sorted ltb l
 sorted-ascending [] e = none
-sorted-ascending (x ∷ []) e = more nil none
-sorted-ascending (x ∷ y ∷ l) e = first (sorted-ascending (y ∷ l) (and-r (ltb x y) _ e))
-  where
-    first : Sorted ltb (y ∷ l) → Sorted ltb (x ∷ y ∷ l)
-    first (more h s) = let p = and-l (ltb x y) _ e in more (cons p (all-imp (λ z q. strict-ltb .transitive x y z p q) h)) (more h s)
+sorted-ascending (x ∷ l) e = more (ascending-above ltb strict-ltb x l e) (sorted-ascending l (ascending-rest ltb x l e))
 
 -- the place of t: how many elements at the front are less
 abbrev pub placeOf : ℕ → List ℕ → ℕ

@@ -1,1 +1,5 @@
+pub mod Digits
+pub mod Back
+pub mod Canon
+pub mod Room
 pub mod Cases

@@ -6,6 +6,7 @@ pub mod Sort
 pub mod Times
 pub mod Meets
 pub mod Frontiers
+pub mod Signed
 pub mod Sums
 pub mod Products
 pub mod Consolidate

@@ -5,16 +5,15 @@
 -- mass-append, mass-map: of a list in two parts, of a list with its diffs kept
 -- mass-consolidate: consolidation does not raise it
 -- mass-each: no diff is larger. mass-most: at most the length times the largest size
-use Prim.Native.Nat.{ℕ, zero, suc, _+_, _*_, _≤_, _<_}
+use Prim.Native.Nat.{ℕ, zero, suc, _+_, _*_, _≤_}
 use mathlib.Core.Bool.{Bool}
 use mathlib.Core.List.{List, [], _∷_, _++_, map}
 use mathlib.Core.Path.{_≡_, refl}
 use native.Mathlib.Omega.{arith}
-use lib.Dec.{ltb}
 use lib.ListN.{length}
-use lib.IntN.{ℤ, pos, negsuc, natAbs, negℤ, subℕ, _+ℤ_, _*ℤ_}
-use borrow.Author.Tests.{ltb-true}
+use lib.IntN.{ℤ, pos, negsuc, natAbs, negℤ, _+ℤ_, _*ℤ_}
 use Rattle.grid.specs.Consolidate.{isZero, unlessZero, add, consolidate}
+use Rattle.grid.proofs.Signed.{natAbs-add}
 use Rattle.grid.proofs.Tests.{by-test}
 use Rattle.grid.proofs.Lists.{All, nil, cons, all-imp}
 
@@ -24,15 +23,6 @@ pub record Sizing (size : ℤ → ℕ) : Type 0 where
 
 pub sizing-one : Sizing (λ d. 1)
 sizing-one = record { plus = λ a b. omega arith; times = λ a b. omega arith }
-
-natAbs-sub : (a b : ℕ) → natAbs (subℕ a b) ≤ a + b
-natAbs-sub a b = by-test (ltb a b) (λ e. let h : a < b = ltb-true a b e in rw e (omega arith)) (λ e. rw e (omega arith))
-
-natAbs-plus : (a b : ℤ) → natAbs (a +ℤ b) ≤ natAbs a + natAbs b
-natAbs-plus (pos a) (pos b) = omega arith
-natAbs-plus (pos a) (negsuc b) = natAbs-sub a (suc b)
-natAbs-plus (negsuc a) (pos b) = let h : natAbs (subℕ b (suc a)) ≤ b + suc a = natAbs-sub b (suc a) in omega arith
-natAbs-plus (negsuc a) (negsuc b) = omega arith
 
 natAbs-neg : (n : ℕ) → natAbs (negℤ (pos n)) ≡ n
 natAbs-neg zero = refl
@@ -45,7 +35,7 @@ natAbs-times (negsuc a) (pos b) = rw natAbs-neg (omega arith)
 natAbs-times (negsuc a) (negsuc b) = omega arith
 
 pub sizing-natAbs : Sizing natAbs
-sizing-natAbs = record { plus = natAbs-plus; times = natAbs-times }
+sizing-natAbs = record { plus = natAbs-add; times = natAbs-times }
 
 module _ {A : Type 0} (size : ℤ → ℕ) where
   abbrev pub mass : List (A × ℤ) → ℕ

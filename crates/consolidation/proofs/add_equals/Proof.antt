@@ -5,7 +5,7 @@ use mathlib.Core.Path.{sym, _∙_}
 use lib.ListN.{length}
 use mir.Syntax.{w64}
 use mir.Val.{toZ}
-use Rattle.slices.proofs.Signed.{back}
+use Rattle.grid.proofs.Signed.{back}
 use Rattle.consolidation.proofs.Adding.{Adding, adding-start, adding-on, adding-zero, adding-store, adding-end, sum-fits, summed}
 use Rattle.consolidation.proofs.Entries.{squash-places}
 use Rattle.consolidation.proofs.add_equals.Statement.{statement}

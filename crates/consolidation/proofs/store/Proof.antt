@@ -1,7 +1,7 @@
 use borrow.Author.Needs.{needs}
 use mathlib.Core.Path.{ap}
 use lib.ListN.{set}
-use Rattle.slices.proofs.Signed.{back}
+use Rattle.grid.proofs.Signed.{back}
 use Rattle.consolidation.proofs.store.Statement.{statement}
 use Rattle.consolidation.proofs.store.Tie as tie
 

@@ -3,7 +3,7 @@ use native.Mathlib.Omega.{arith}
 use Prim.Native.Nat.{_-_}
 use lib.ListN.{length}
 use Rattle.slices.proofs.Writes.{Copying, copying-start, copying-more, copying-end}
-use Rattle.slices.proofs.Signed.{drop-more-diff}
+use Rattle.grid.proofs.Signed.{drop-more-diff}
 use Rattle.slices.proofs.copy_diffs.Statement.{statement}
 use Rattle.slices.proofs.copy_diffs.Tie as tie
 

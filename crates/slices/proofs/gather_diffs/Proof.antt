@@ -6,7 +6,7 @@ use mathlib.Core.Path.{_≡_, _∙_}
 use lib.ListN.{length, take, drop, length-set}
 use Rattle.grid.proofs.Loops.{put-more, put-end}
 use Rattle.slices.proofs.Writes.{gather-more, gather-none}
-use Rattle.slices.proofs.Signed.{back}
+use Rattle.grid.proofs.Signed.{back}
 use Rattle.slices.specs.Places.{diffEntry}
 use Rattle.slices.proofs.gather_diffs.Statement.{statement}
 use Rattle.slices.proofs.gather_diffs.Tie as tie

@@ -1,0 +1,4 @@
+pub mod Ascending
+pub mod Diffs
+pub mod Room
+pub mod Rows

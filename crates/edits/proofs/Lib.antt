@@ -1,0 +1,5 @@
+pub mod Edits
+pub mod Swapped
+pub mod InOrder
+pub mod Buffers
+pub mod Fronts

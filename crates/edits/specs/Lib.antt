@@ -1,0 +1,2 @@
+pub mod Edits
+pub mod Buffers

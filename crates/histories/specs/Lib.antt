@@ -1,0 +1,4 @@
+pub mod Places
+pub mod Suffixes
+pub mod Loads
+pub mod Advances

@@ -1,0 +1,3 @@
+pub mod Present
+pub mod Merges
+pub mod Window

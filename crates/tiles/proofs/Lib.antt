@@ -1,0 +1,5 @@
+pub mod Writing
+pub mod Cutting
+pub mod Walking
+pub mod Places
+pub mod Describing
