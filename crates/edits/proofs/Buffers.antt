@@ -1,26 +1,25 @@
 -- Loads and advances of edits, in columns that are as long as there are edits.
 --
--- loads-all: joined times, consolidated, are a load. settles: values first, consolidated, are a consolidated buffer
+-- loads-all: joined times, consolidated, are a load
 -- advances-left, advances-settled: a buffer whose times were joined, where it is consolidated already, and where it was consolidated then
-use Prim.Native.Nat.{ℕ, _+_, _-_, _≤_}
+use Prim.Native.Nat.{ℕ, _-_}
 use native.Mathlib.Omega.{arith}
-use mathlib.Core.Bool.{true, false, cond}
+use mathlib.Core.Bool.{true, false}
 use mathlib.Core.List.{List, [], _∷_, _++_, map, append-nil}
 use mathlib.Core.Option.{Option, some}
 use mathlib.Core.Path.{_≡_, refl, sym, _∙_, ap}
-use lib.Dec.{ltb}
 use lib.IntN.{ℤ, pos}
-use lib.ListN.{length, drop, length-append, length-map, length-replicate, drop-of-length-le}
-use Rattle.grid.specs.Consolidate.{lex, consolidate}
+use lib.ListN.{length, drop, length-map, drop-of-length-le}
+use Rattle.grid.specs.Consolidate.{consolidate}
 use Rattle.grid.specs.Lists.{padded}
 use Rattle.grid.specs.Times.{join, joined}
-use Rattle.slices.proofs.Writes.{copied-all}
 use Rattle.grid.specs.Slices.{laid}
 use Rattle.grid.proofs.Slices.{laid-fits}
+use Rattle.consolidation.specs.Entries as Consolidated
 use Rattle.consolidation.specs.Entries.{first, second, diff, entries, consolidated, sortedPlaces, Front, Lent, LentWork}
 use Rattle.rules.specs.Histories.{Edit, timeOf, valueOf, byValue, joinedEdit, loadEdits, advanceEdits}
 use Rattle.edits.specs.Edits.{edits, Alike, isConsolidated}
-use Rattle.edits.specs.Buffers.{LoadsAll, Settles, alreadySettled, WorkAfter, AdvancesAll}
+use Rattle.edits.specs.Buffers.{LoadsAll, alreadySettled, AdvancesAll}
 use Rattle.edits.proofs.Edits.{times-edits, values-edits, diffs-edits, length-edits}
 use Rattle.edits.proofs.InOrder.{consolidated-same}
 use Rattle.edits.proofs.Swapped.{swapped, swapped-edits, consolidate-swapped, edits-joined}
@@ -63,28 +62,12 @@ front-swapped {es} {n} f = record {
   diffs-are = f .diffs-are ∙ ap (padded (pos 0) n) (map-swapped-diff es);
 }
 
-length-padded : {A : Type 0} (z : A) (n : ℕ) (xs : List A) → n ≤ length (padded z n xs)
-length-padded z n xs = rw (length-append, length-replicate) (omega arith)
-
-pub settles : (ts vs : List ℕ) (ds : List ℤ) {ts′ vs′ : List ℕ} {ds′ : List ℤ} {places firsts seconds : List ℕ} {sums : List ℤ} {r : ℕ} → Lent ts vs ds
-    → Front (consolidated (entries vs ts ds)) (length vs) r firsts seconds sums × (places ≡ sortedPlaces vs ts)
-    → vs′ ≡ firsts ++ drop (length firsts) vs → ts′ ≡ seconds ++ drop (length seconds) ts → ds′ ≡ sums ++ drop (length sums) ds → Settles ts vs ds ts′ vs′ ds′ places firsts seconds sums r
+-- a buffer that was consolidated with values first
+settles : (ts vs : List ℕ) (ds : List ℤ) {ts′ vs′ : List ℕ} {ds′ : List ℤ} {r : ℕ} → length vs ≡ length ts → Front (consolidated (entries vs ts ds)) (length vs) r vs′ ts′ ds′ → Front (consolidate byValue (edits ts vs ds)) (length ts) r ts′ vs′ ds′
 unfolding edits
-settles ts vs ds {ts′} {vs′} {ds′} {places} {firsts} {seconds} {sums} {r} a f p q s =
-    let n : length vs ≡ length ts = a .alike-second in
-    let m : length ds ≡ length ts = a .alike-diff in
-    let c = consolidated (entries vs ts ds) in
-    let v : vs′ ≡ firsts = copied-all firsts vs (rw (f .0 .firsts-are) (length-padded 0 (length vs) (map first c))) p in
-    let t : ts′ ≡ seconds = copied-all seconds ts (rw (f .0 .seconds-are, ← n) (length-padded 0 (length vs) (map second c))) q in
-    let d : ds′ ≡ sums = copied-all sums ds (rw (f .0 .diffs-are, m, ← n) (length-padded (pos 0) (length vs) (map diff c))) s in
-    let g : Front (map swapped (consolidate byValue (edits ts vs ds))) (length vs) r firsts seconds sums = rw (← consolidate-swapped, ← swapped-edits ts vs ds) (f .0) in
-    record {
-      front = rw (t, v, d, ← n) (front-swapped g);
-      places-are = f .1;
-      firsts-are = sym v;
-      seconds-are = sym t;
-      sums-are = sym d;
-    }
+settles ts vs ds {ts′} {vs′} {ds′} {r} n f =
+    let g : Front (map swapped (consolidate byValue (edits ts vs ds))) (length vs) r vs′ ts′ ds′ = rw (← consolidate-swapped, ← swapped-edits ts vs ds) f in
+    rw (← n) (front-swapped g)
 
 -- ---- an advance of whole columns
 -- nothing lies past a whole slice
@@ -126,18 +109,18 @@ module _ (p : ℕ) (ts vs : List ℕ) (ds : List ℤ) (a : Lent ts vs ds) {ts₁
       }
 
   pub advances-settled : {ts′ vs′ : List ℕ} {ds′ : List ℤ} {places firsts seconds : List ℕ} {sums : List ℤ} {places′ firsts′ seconds′ : List ℕ} {sums′ : List ℤ} {r : ℕ} → LentWork (length ts) places firsts seconds sums
-      → false ≡ isConsolidated (edits ts₁ vs ds) → Settles ts₁ vs ds ts′ vs′ ds′ places′ firsts′ seconds′ sums′ r
+      → false ≡ isConsolidated (edits ts₁ vs ds) → Front (consolidated (entries vs ts₁ ds)) (length vs) r vs′ ts′ ds′ → Consolidated.WorkAfter (sortedPlaces vs ts₁) vs′ ts′ ds′ places′ firsts′ seconds′ sums′
       → AdvancesAll (some p) ts vs ds ts′ vs′ ds′ places firsts seconds sums places′ firsts′ seconds′ sums′ r
   unfolding advanceEdits alreadySettled joined
-  advances-settled {ts′} {vs′} {ds′} {places} {firsts} {seconds} {sums} {places′} {firsts′} {seconds′} {sums′} {r} room t w =
+  advances-settled {ts′} {vs′} {ds′} {places} {firsts} {seconds} {sums} {places′} room t f w =
       let s : isConsolidated (map (joinedEdit (some p)) (edits ts vs ds)) ≡ false = rw (← advanced-edits) (sym t) in
       let q : places′ ≡ sortedPlaces vs (map (join p) ts) = w .places-are ∙ ap (sortedPlaces vs) e in
       record {
-        front = rw (← advanced-edits, ← advanced-length) (w .front);
+        front = rw (← advanced-edits, ← advanced-length) (settles ts₁ vs ds (advanced-alike .values) f);
         work = record {
           places-are = rw s (q ∙ with-rest (sortedPlaces vs (map (join p) ts)) places (length ts) (room .room-places));
-          firsts-are = rw s (w .firsts-are ∙ with-rest vs′ firsts (length ts) (room .room-first));
-          seconds-are = rw s (w .seconds-are ∙ with-rest ts′ seconds (length ts) (room .room-second));
-          sums-are = rw s (w .sums-are ∙ with-rest ds′ sums (length ts) (room .room-diff));
+          firsts-are = rw s (w .firsts-same ∙ with-rest vs′ firsts (length ts) (room .room-first));
+          seconds-are = rw s (w .seconds-same ∙ with-rest ts′ seconds (length ts) (room .room-second));
+          sums-are = rw s (w .diffs-same ∙ with-rest ds′ sums (length ts) (room .room-diff));
         };
       }

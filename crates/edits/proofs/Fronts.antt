@@ -2,21 +2,20 @@
 --
 -- fronted: what lies at the front of three columns, as edits; and what lies past it
 -- loads-edits: a load of parts. lent-buffer: the parts that an advance lends. advances-edits, advances-nothing: an advance of parts; there is none
-use Prim.Native.Nat.{ℕ, zero, suc, _+_, _-_, _≤_}
+use Prim.Native.Nat.{ℕ, zero, suc, _-_, _≤_}
 use native.Mathlib.Nat.{sub-zero}
 use native.Mathlib.Omega.{arith}
 use mathlib.Core.Bool.{Bool, true, false, cond}
 use mathlib.Core.List.{List, [], _∷_, _++_, map, append-nil, append-assoc}
 use mathlib.Core.Option.{Option, none, some}
-use mathlib.Core.Path.{_≡_, refl, sym, _∙_, ap, ap₂}
-use lib.IntN.{ℤ, pos}
+use mathlib.Core.Path.{_≡_, refl, sym, _∙_, ap}
+use lib.IntN.{ℤ}
 use lib.ListN.{length, take, drop, replicate, length-append, length-map, length-replicate, drop-of-length-le, take-append-drop}
 use lib.Seq.{length-take-le, take-at, drop-at}
 use Rattle.grid.specs.Lists.{padded}
 use Rattle.grid.specs.Times.{joined}
-use Rattle.grid.proofs.Tests.{by-test}
 use Rattle.grid.proofs.Sizes.{sizing-one, mass-one}
-use Rattle.consolidation.specs.Entries.{first, second, diff, Entry, sortedPlaces, Front, Lent, LentWork}
+use Rattle.consolidation.specs.Entries.{sortedPlaces, Front, Lent, LentWork}
 use Rattle.rules.specs.Histories.{Edit, timeOf, valueOf, loadEdits, advanceEdits}
 use Rattle.rules.proofs.Wave.{load-mass, advance-mass}
 use Rattle.edits.specs.Edits.{edits, Alike}

@@ -7,9 +7,9 @@
 -- advance-consolidated: a consolidated buffer consolidates to itself
 use Prim.Native.Nat.{ℕ, zero, suc, _≤_, _<_, _^_}
 use native.Mathlib.Omega.{arith}
-use mathlib.Core.Bool.{Bool, true, false, _&&_, _||_, not}
+use mathlib.Core.Bool.{Bool, true, false, _&&_, not}
 use mathlib.Core.List.{List, [], _∷_, map}
-use mathlib.Core.Path.{_≡_, refl, sym, _∙_, ap, ap₂}
+use mathlib.Core.Path.{_≡_, refl, sym, _∙_, ap}
 use lib.Dec.{ltb}
 use lib.IntN.{ℤ}
 use lib.ListN.{length, getD, length-map}
@@ -20,7 +20,7 @@ use borrow.Author.Tests.{lt-ltb, le-ltb, not-true}
 use Rattle.grid.specs.Consolidate.{isZero, lex, consolidate}
 use Rattle.grid.specs.Lists.{every, ascending}
 use Rattle.grid.proofs.Tests.{and-l, and-r}
-use Rattle.grid.proofs.Lists.{All, map-all}
+use Rattle.grid.proofs.Lists.{map-all}
 use Rattle.grid.proofs.Ascending.{ascending-rest, ascending-above}
 use Rattle.grid.proofs.Consolidate.{Canon, none, more, consolidate-canon}
 use Rattle.grid.proofs.Signed.{back}

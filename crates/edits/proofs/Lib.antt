@@ -3,3 +3,4 @@ pub mod Swapped
 pub mod InOrder
 pub mod Buffers
 pub mod Fronts
+pub mod Masses

@@ -2,7 +2,6 @@
 --
 -- noEdit: what stands past a column's edits
 -- LoadsAll: the edits of the columns were loaded into columns that are as long. LoadsEdits: into the front of columns es, which become es′
--- Settles: a buffer was consolidated
 -- alreadySettled o b: the buffer b needs no consolidation once it is joined with o, or there is none
 -- WorkAfter: the work slices after the buffer of the columns ts, vs, ds was advanced by o to ts′, vs′, ds′. They are used where it had to be consolidated
 -- AdvancesAll: all of three columns was advanced. AdvancesEdits: the first `count` edits were
@@ -14,24 +13,16 @@ use mathlib.Core.Option.{Option, none, some}
 use mathlib.Core.Path.{_≡_}
 use lib.IntN.{ℤ, pos}
 use lib.ListN.{length, take, drop}
-use Rattle.grid.specs.Consolidate.{consolidate}
 use Rattle.grid.specs.Lists.{padded}
 use Rattle.grid.specs.Times.{joined}
 use Rattle.consolidation.specs.Entries.{mass, mostMass, sortedPlaces, Front, Lent}
-use Rattle.rules.specs.Histories.{Edit, byValue, joinedEdit, loadEdits, advanceEdits}
+use Rattle.rules.specs.Histories.{Edit, joinedEdit, loadEdits, advanceEdits}
 use Rattle.edits.specs.Edits.{edits, Alike, isConsolidated}
 
 pub record LoadsAll (o : Option ℕ) (ts vs : List ℕ) (ds : List ℤ) (joins places ts′ vs′ : List ℕ) (ds′ : List ℤ) (r : ℕ) : Type 0 where
   pub front : Front (loadEdits o (edits ts vs ds)) (length ts) r ts′ vs′ ds′
   pub joins-are : joins ≡ map (joined o) ts
   pub places-are : places ≡ sortedPlaces (map (joined o) ts) vs
-
-pub record Settles (ts vs : List ℕ) (ds : List ℤ) (ts′ vs′ : List ℕ) (ds′ : List ℤ) (places firsts seconds : List ℕ) (sums : List ℤ) (r : ℕ) : Type 0 where
-  pub front : Front (consolidate byValue (edits ts vs ds)) (length ts) r ts′ vs′ ds′
-  pub places-are : places ≡ sortedPlaces vs ts
-  pub firsts-are : firsts ≡ vs′
-  pub seconds-are : seconds ≡ ts′
-  pub sums-are : sums ≡ ds′
 
 abbrev pub noEdit : Edit
 noEdit = ((0, 0), pos 0)

@@ -1,10 +1,9 @@
 // Loads and advances: edits consolidated by (time, value), as a history, and by (value, time), as a buffer.
 use crate::order::is_consolidated;
+use consolidation::consolidate;
 use consolidation::consolidate_into;
 use histories::copy_joined;
 use histories::join_each;
-use slices::copy;
-use slices::copy_diffs;
 use times::Meet;
 use times::PackedTime;
 ghost use mathlib.Core.Option.{some};
@@ -12,7 +11,7 @@ ghost use mathlib.Core.Path.{_≡_};
 ghost use lib.ListN.{length, take};
 ghost use Rattle.times.specs.Meets.{optional};
 ghost use Rattle.consolidation.specs.Entries.{Lent, LentWork};
-ghost use Rattle.edits.specs.Buffers.{LoadsAll, LoadsEdits, LentLoad, Settles, AdvancesAll, AdvancesEdits, WorkAfter, LentBuffer};
+ghost use Rattle.edits.specs.Buffers.{LoadsAll, LoadsEdits, LentLoad, AdvancesAll, AdvancesEdits, WorkAfter, LentBuffer};
 ghost use Rattle.edits.specs.Edits.{edits};
 
 // Loads edits into columns that are as long.
@@ -34,26 +33,6 @@ fn load_all(
     consolidate_into(joined, fromvalues, fromdiffs, places, times, values, diffs)
 }
 
-// Consolidates a buffer. The work slices are as long.
-fn settle(
-    times: &mut [u64],
-    values: &mut [u64],
-    diffs: &mut [i64],
-    places: &mut [u64],
-    firsts: &mut [u64],
-    seconds: &mut [u64],
-    sums: &mut [i64],
-) -> usize
-    requires { ⌜ Lent (now times) (now values) (now diffs) × LentWork (length (now times)) (now places) (now firsts) (now seconds) (now sums) ⌝ }
-    ensures { λ r. ⌜ Settles (now (times .entry)) (now (values .entry)) (now (diffs .entry)) (now (times .exit)) (now (values .exit)) (now (diffs .exit)) (now (places .exit)) (now (firsts .exit)) (now (seconds .exit)) (now (sums .exit)) r ⌝ }
-{
-    let r = consolidate_into(values, times, diffs, places, firsts, seconds, sums);
-    copy(firsts, values);
-    copy(seconds, times);
-    copy_diffs(sums, diffs);
-    r
-}
-
 // Advances a buffer by p. The work slices are as long. What is consolidated already, once its times are joined, is left as it is.
 fn advance_by(
     p: PackedTime,
@@ -72,7 +51,7 @@ fn advance_by(
     if is_consolidated(times, values, diffs) {
         return times.len();
     }
-    settle(times, values, diffs, places, firsts, seconds, sums)
+    consolidate(values, times, diffs, places, firsts, seconds, sums)
 }
 
 // Loads edits, each joined with the meet if there is one, consolidated by (time, value). Returns how many there are.

@@ -1,9 +1,8 @@
 // Whether edits are consolidated already, as a buffer is.
-ghost use mathlib.Core.Bool.{_&&_, not};
+ghost use mathlib.Core.Bool.{not};
 ghost use mathlib.Core.List.{map};
 ghost use mathlib.Core.Path.{_≡_};
 ghost use lib.Dec.{ltb};
-ghost use lib.ListN.{length};
 ghost use Rattle.grid.specs.Consolidate.{isZero, lex};
 ghost use Rattle.grid.specs.Lists.{every, ascending};
 ghost use Rattle.rules.specs.Histories.{byValue};

@@ -6,20 +6,19 @@
 use Prim.Native.Nat.{ℕ, _+_, _-_, _≤_}
 use native.Mathlib.Nat.{sub-zero}
 use native.Mathlib.Omega.{arith}
-use mathlib.Core.Bool.{true, false, cond, _&&_}
+use mathlib.Core.Bool.{true, false}
 use mathlib.Core.List.{List, [], _∷_, _++_, map, append-assoc, append-nil}
 use mathlib.Core.Option.{Option, none, some}
-use mathlib.Core.Path.{_≡_, refl, sym, _∙_, ap, ap₂}
+use mathlib.Core.Path.{_≡_, refl, sym, _∙_, ap}
 use lib.Dec.{leb, ltb}
-use lib.ListN.{length, take, drop, replicate, length-append, length-map, length-replicate, take-append-drop}
-use lib.Seq.{length-take-le, take-at, drop-at, take-append-le}
+use lib.ListN.{length, take, drop, length-append, length-map, length-replicate, take-append-drop}
+use lib.Seq.{length-take-le, take-at, drop-at}
 use Rattle.grid.specs.Lists.{sort, ascending, padded}
 use Rattle.grid.specs.Times.{join, put, puts}
 use Rattle.grid.proofs.Tests.{by-test, and-l}
 use Rattle.grid.proofs.Ascending.{ascending-rest}
 use Rattle.grid.proofs.Sort.{length-sort}
 use Rattle.distinct.specs.Sets.{Removed}
-use Rattle.grid.specs.Slices.{laid}
 use Rattle.grid.proofs.Slices.{laid-fits}
 use Rattle.rules.specs.Histories.{advanceTimes}
 use Rattle.histories.specs.Advances.{workAfter, Advanced, Advances}
@@ -89,7 +88,8 @@ module _ {o : Option ℕ} (count : ℕ) (col work : List ℕ) (h : count ≤ len
       let b : r ≤ count = rw (← n) (a .within) in
       let xs = map (join m) (take count col) in
       let l : length (sort leb xs) ≡ count = length-sort leb xs ∙ length-map (take count col) (join m) ∙ n in
-      let t : x ++ drop (count - 0) col ≡ padded 0 count (puts xs []) ++ drop count col = rw sub-zero (ap (λ r. r ++ drop count col) (a .removed .exit-is ∙ ap (λ c. padded 0 c (puts xs [])) n)) in
+      let x′ : x ≡ padded 0 count (puts xs []) = a .removed .exit-is ∙ ap (λ c. padded 0 c (puts xs [])) n in
+      let t : x ++ drop (count - 0) col ≡ padded 0 count (puts xs []) ++ drop count col = rw (sub-zero, x′) in
       record {
         within = b;
         buffer = rw e (padded-front (puts xs []) col b (a .removed .count-is) t);

@@ -13,7 +13,7 @@ use mathlib.Core.Bool.{Bool, true, false, not}
 use mathlib.Core.List.{List, [], _∷_, _++_}
 use mathlib.Core.Path.{_≡_, refl, sym, _∙_, ap, ap₂}
 use lib.Dec.{ltb}
-use lib.ListN.{length, take, drop, getD, set, length-append, length-take, length-drop, length-set, drop-of-length-le, take-append-drop}
+use lib.ListN.{length, take, drop, getD, set, length-append, length-drop, length-set, drop-of-length-le, take-append-drop}
 use lib.Seq.{slice, drop-drop, drop-at, length-take-le, take-add, take-take, length-slice}
 use borrow.Author.Tests.{ltb-true, ltb-false, lt-ltb, le-ltb}
 use Rattle.grid.specs.Lists.{front, past, isEmpty}
@@ -25,7 +25,6 @@ use Rattle.rules.specs.Histories.{Edit, stepped, moved}
 use Rattle.rules.specs.Wave.{stepOne}
 use Rattle.histories.specs.Places.{historyOf, Placed, Steps, StepsOne}
 use Rattle.histories.specs.declared.Place.{Place}
-use Rattle.histories.specs.declared.Stepped.{Stepped}
 
 -- ---- where the front ends
 module _ {A : Type 0} (p : A → Bool) (l : List A) (i : ℕ) {a : ℕ} where

@@ -4,7 +4,7 @@
 -- suffixes-start, suffixes-later: a column of suffix meets tells the meets of what is ahead, at first and after steps
 -- first-some, first-none, ahead-none: what is read at `at`, where something is ahead and where nothing is
 -- Meetings ts count ms₀ ms i m: a loop that writes the suffix meets of the first `count` times has come down to i. meetings-start, meetings-more, meetings-end: the loop keeps that
-use Prim.Native.Nat.{ℕ, zero, suc, _+_, _-_, _≤_, _<_}
+use Prim.Native.Nat.{ℕ, zero, suc, _-_, _≤_, _<_}
 use native.Mathlib.Omega.{arith}
 use mathlib.Core.List.{List, [], _∷_, _++_}
 use mathlib.Core.Option.{Option, none, some}

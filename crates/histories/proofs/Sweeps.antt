@@ -3,16 +3,16 @@
 -- Mapping f src dst₀ dst i: a loop has written what f makes of the first i entries of src to dst. mapping-start, mapping-more, mapping-end: the loop keeps that
 -- Replacing f s₀ s i: the same in place. replacing-start, replacing-more, replacing-end: the loop keeps that
 -- Climbs lt s i: up to i the entries ascend. climbs-start, climbs-more, climbs-stops, climbs-end: the loop keeps that
-use Prim.Native.Nat.{ℕ, zero, suc, _+_, _-_, _≤_, _<_}
+use Prim.Native.Nat.{ℕ, suc, _+_, _-_, _≤_, _<_}
 use native.Mathlib.Omega.{arith}
-use mathlib.Core.Bool.{Bool, true, false, _&&_}
+use mathlib.Core.Bool.{Bool, true, false}
 use mathlib.Core.List.{List, [], _∷_, _++_, map}
 use mathlib.Core.Path.{_≡_, refl, sym, _∙_, ap}
 use lib.ListN.{length, take, drop, getD, set, length-set, length-drop, drop-of-length-le}
-use lib.Seq.{take-all, drop-cons}
+use lib.Seq.{drop-cons}
 use Rattle.grid.specs.Lists.{ascending}
 use Rattle.grid.proofs.Loops.{put-more, put-end, map-more, ahead-set, ahead-getD}
-use Rattle.grid.specs.Slices.{laid, Laid}
+use Rattle.grid.specs.Slices.{laid}
 use Rattle.grid.proofs.Slices.{Laying, laying-start, laying-more, laying-end}
 
 -- ---- from one column to another
