@@ -1,0 +1,9 @@
+pub mod Tracks
+pub mod Answers
+pub mod Five
+pub mod Arms
+pub mod States
+pub mod Weights
+pub mod Kept
+pub mod Tied
+pub mod Together
