@@ -1,3 +1,4 @@
 pub mod Present
 pub mod Merges
 pub mod Window
+pub mod Slots
