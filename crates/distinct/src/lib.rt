@@ -1,6 +1,7 @@
 // Sets of times: strictly ascending lists at the front of a lent slice.
 use slices::clear_from;
 use sorting::sort_times;
+use times::PackedTime;
 ghost use mathlib.Core.Path.{_≡_};
 ghost use mathlib.Core.Bool.{true, _&&_};
 ghost use mathlib.Core.List.{[], _∷_, _++_};
@@ -107,14 +108,14 @@ fn shift_in(s: &mut [u64], count: usize, place: usize, t: u64)
 }
 
 // Puts t into the set of the first count elements. Returns how many there are then.
-pub fn insert_distinct(s: &mut [u64], count: usize, t: u64) -> usize
+pub fn insert_distinct(s: &mut [u64], count: usize, t: PackedTime) -> usize
     requires { ⌜ (count < length (now s)) × (ascending ltb (take count (now s)) ≡ true) ⌝ }
-    ensures { λ r. ⌜ Inserted t count (now (s .entry)) (now (s .exit)) r ⌝ }
+    ensures { λ r. ⌜ Inserted (t .0) count (now (s .entry)) (now (s .exit)) r ⌝ }
 {
-    let place = place_of(s, count, t);
-    if stands_at(s, count, place, t) {
+    let place = place_of(s, count, t.0);
+    if stands_at(s, count, place, t.0) {
         return count;
     }
-    shift_in(s, count, place, t);
+    shift_in(s, count, place, t.0);
     count + 1
 }

@@ -30,7 +30,7 @@ pub fn put_time(s: &mut [u64], count: usize, t: PackedTime) -> usize
     if count > MOST_MOMENTS {
         return count;
     }
-    insert_distinct(s, count, t.0)
+    insert_distinct(s, count, t)
 }
 
 // The join of n with t, if t is not at or below n: pended if it is beyond upper, else it waits.

@@ -16,10 +16,10 @@ same-length : tie.Need-same-length
 same-length c = search needs
 
 returns : tie.Need-returns
-returns c = inserted-same (c .before .before .before .before .before .before .args .t) (c .before .before .before .before .before .before .args .count) (c .before .before .before .before .before .before .args .s .now) (c .before .before .before .before .before .before .pre .0) (c .before .before .before .place-of .result) (c .before .before .before .place-of .ensures) (sym (c .before .stands-at .ensures) ∙ c .if1 .taken)
+returns c = inserted-same (c .before .before .before .before .before .before .args .t .0) (c .before .before .before .before .before .before .args .count) (c .before .before .before .before .before .before .args .s .now) (c .before .before .before .before .before .before .pre .0) (c .before .before .before .place-of .result) (c .before .before .before .place-of .ensures) (sym (c .before .stands-at .ensures) ∙ c .if1 .taken)
 
 shift-in-requires : tie.Need-shift-in-requires
-shift-in-requires c κs = (let h : c .before .before .before .before .place-of .result ≤ c .before .before .before .before .before .before .before .args .count = rw (c .before .before .before .before .place-of .ensures) (place-within (c .before .before .before .before .before .before .before .args .s .now) (c .before .before .before .before .before .before .before .args .count) (c .before .before .before .before .before .before .before .args .t) (omega arith)) in (h, c .before .before .before .before .before .before .before .pre .0))
+shift-in-requires c κs = (let h : c .before .before .before .before .place-of .result ≤ c .before .before .before .before .before .before .before .args .count = rw (c .before .before .before .before .place-of .ensures) (place-within (c .before .before .before .before .before .before .before .args .s .now) (c .before .before .before .before .before .before .before .args .count) (c .before .before .before .before .before .before .before .args .t .0) (omega arith)) in (h, c .before .before .before .before .before .before .before .pre .0))
 
 add-result : tie.Need-add-result
 add-result c = search needs
@@ -28,7 +28,7 @@ same-length-2 : tie.Need-same-length-2
 same-length-2 c = search needs
 
 returns-2 : tie.Need-returns-2
-returns-2 c = inserted-new (c .before .before .before .before .before .before .before .before .before .before .args .t) (c .before .before .before .before .before .before .before .before .before .before .args .count) (c .before .before .before .before .before .before .before .before .before .before .args .s .now) (c .before .before .before .before .before .before .before .before .before .before .pre .0) (c .before .before .before .before .before .before .before .place-of .result) (c .before .before .before .before .before .before .before .place-of .ensures) (sym (c .before .before .before .before .before .stands-at .ensures) ∙ c .before .before .before .before .if1 .left) (c .before .before .shift-in .ensures)
+returns-2 c = inserted-new (c .before .before .before .before .before .before .before .before .before .before .args .t .0) (c .before .before .before .before .before .before .before .before .before .before .args .count) (c .before .before .before .before .before .before .before .before .before .before .args .s .now) (c .before .before .before .before .before .before .before .before .before .before .pre .0) (c .before .before .before .before .before .before .before .place-of .result) (c .before .before .before .before .before .before .before .place-of .ensures) (sym (c .before .before .before .before .before .stands-at .ensures) ∙ c .before .before .before .before .if1 .left) (c .before .before .shift-in .ensures)
 
 pub insert-distinct-spec : {M : Type 1} → statement M
 insert-distinct-spec =
