@@ -1,6 +1,7 @@
 -- What memory holds after a call.
 --
--- Fits, call-fits: results fit into result memory. call-frontier: the next frontier is one
+-- Fits, call-fits, lent-fits: results fit into result memory. call-frontier: the next frontier is one
+-- padded-length, tile-length, tiles-numbers: how long the results' columns are
 -- memory-untouched: at 11 to 17. work-cleared, workDiffs-cleared: work memory at the others. Cleared, lent-cleared: at 18 and 19
 -- SameLengths, lent-lengths: a call changes no slice's length
 -- lent-well, lent-ill, lent-row-11: a lent call is answered as its request is, or with 11
@@ -106,14 +107,14 @@ call-frontier q =
     (λ k. let one = eqb-true _ _ k in rw (call-quiet q one) (frontiers q (call-rows q .row-1 .0 one .0 .holds-12) .2))
     (λ k. rw (call-refused q (omega (arith, eqb-false (call q .status) 0 e, eqb-false (call q .status) 1 k)))))
 
-padded-length : {A : Type 0} (z : A) (n : ℕ) (xs : List A) → length xs ≤ n → length (padded z n xs) ≡ n
+pub padded-length : {A : Type 0} (z : A) (n : ℕ) (xs : List A) → length xs ≤ n → length (padded z n xs) ≡ n
 padded-length z n xs h = rw (length-append xs (replicate (n - length xs) z), length-replicate (n - length xs) z) (omega arith)
 
-tile-length : (t : Tile) → Bounded mostBound t → length (tileNumbers t) ≡ tileSize
+pub tile-length : (t : Tile) → Bounded mostBound t → length (tileNumbers t) ≡ tileSize
 unfolding tileNumbers
 tile-length t b = simp (length-append, length-replicate) (omega arith)
 
-tiles-numbers : {ts : List Tile} → All (Bounded mostBound) ts → length (flat tileNumbers ts) ≡ length ts * tileSize
+pub tiles-numbers : {ts : List Tile} → All (Bounded mostBound) ts → length (flat tileNumbers ts) ≡ length ts * tileSize
 tiles-numbers nil = refl
 tiles-numbers (cons {x = t} {xs = ts} b h) = rw (length-append (tileNumbers t) (flat tileNumbers ts)) (omega (arith, tile-length t b, tiles-numbers h))
 
@@ -229,6 +230,11 @@ module _ (z : Sizes) (l : Lent) where
   pub lent-ill : lentWell z l ≡ false → callLent z l ≡ refused 11
   unfolding callLent
   lent-ill e = rw e
+
+  pub lent-fits : Fits (callLent z l)
+  lent-fits =
+      by-test (lentWell z l) (λ e. rw (lent-well e) (call-fits (requestOf l)))
+      (λ e. rw (lent-ill e) (refused-fits (requestOf l) 11))
 
   lent-roomy : lentWell z l ≡ true → roomy z (l .memory) ≡ true
   unfolding lentWell

@@ -1,0 +1,10 @@
+pub mod Permuted
+pub mod Arranged
+pub mod Flat
+pub mod Slots
+pub mod Windows
+pub mod Distinct
+pub mod Fixes
+pub mod Call
+pub mod Through
+pub mod Answer
