@@ -3,7 +3,7 @@
 -- Writing: a loop that writes one element after the other. writing-start, writing-more, writing-end: it keeps that. taken-more, taken-none, taken-map: what is still to be read of the first n
 -- mass-at: a diff is no larger than all of them. small-back: a diff is read back from its bits. product-fits, product-is: the product of two diffs fits
 -- diff-read, diff-small, diff-multiplied: one of the first n diffs, as it is read. lent-diffs, read-diffs: the diff of the stepped edit
-use Prim.Native.Nat.{ℕ, zero, suc, _+_, _*_, _≤_, _<_, _^_}
+use Prim.Native.Nat.{ℕ, zero, suc, _+_, _≤_, _<_, _^_}
 use native.Mathlib.Omega.{arith}
 use native.Mathlib.Nat.{mul-le-mul}
 use mathlib.Core.List.{List, [], _∷_, map}

@@ -1,3 +1,9 @@
 pub mod Heads
 pub mod Emissions
 pub mod Turns
+pub mod Replays
+pub mod Replaying
+pub mod Checking
+pub mod Loading
+pub mod Calling
+pub mod Results

@@ -1,13 +1,13 @@
 -- One step of the wave.
 --
 -- lent-pairs, emits-edit: the emissions of one edit, from its columns
--- lent-buffer, lent-edit: what a step asks of the advance, and of the emissions after it. counts-on: the count fits. turns: what it leaves
+-- lent-other, lent-edit: what a step asks of the advance, and of the emissions after it. counts-on: the count fits. turns: what it leaves
 use Prim.Native.Nat.{ℕ, zero, suc, _+_, _-_, _≤_, _<_, _^_}
 use native.Mathlib.Omega.{arith}
 use mathlib.Core.List.{List, [], _∷_, map}
 use mathlib.Core.Option.{none}
 use mathlib.Core.Path.{_≡_, refl, sym, _∙_, ap, ap₂}
-use lib.IntN.{ℤ, pos, natAbs, _*ℤ_}
+use lib.IntN.{ℤ, pos, _*ℤ_}
 use lib.ListN.{length, take, drop, getD, replicate}
 use lib.Seq.{length-take-le, drop-drop}
 use mir.Syntax.{w64}
@@ -20,12 +20,12 @@ use Rattle.rules.specs.Histories.{Edit, timeOf, valueOf, advanceEdits}
 use Rattle.rules.specs.Wave.{emission, advancedBy}
 use Rattle.rules.proofs.Wave.{advance-mass}
 use Rattle.histories.specs.declared.Place.{Place}
-use Rattle.histories.specs.Places.{historyOf, Placed, StepsOne}
+use Rattle.histories.specs.Places.{historyOf, StepsOne}
 use Rattle.edits.specs.Edits.{edits, Alike}
-use Rattle.edits.specs.Buffers.{noEdit, AdvancesEdits, LentBuffer}
+use Rattle.edits.specs.Buffers.{noEdit, AdvancesEdits}
 use Rattle.edits.proofs.Edits.{diffOf, times-edits, values-edits, diffs-edits, map-drop, length-edits, edits-take}
 use Rattle.wave.specs.Emissions.{over, mostDiff, Pairs, LentPairs}
-use Rattle.wave.specs.Turns.{emittedTime, emittedFirst, emittedSecond, emittedDiff, Emits, nextOf, LentEdit, LentTurn, Turns}
+use Rattle.wave.specs.Turns.{emittedTime, emittedFirst, emittedSecond, emittedDiff, Emits, LentEdit, LentOther, LentTurn, Turns}
 use Rattle.wave.proofs.Emissions.{small-back, small-still}
 
 -- ---- the columns of one edit's emissions
@@ -62,7 +62,7 @@ edit-at (t ∷ ts) (v ∷ vs) (d ∷ ds) a (suc i) = edit-at ts vs ds (record { 
 
 -- the first n edits, and the columns of theirs
 module _ (ts vs : List ℕ) (ds : List ℤ) (a : Alike ts vs ds) (n : ℕ) (h : n ≤ length ts) where
-  front-alike : Alike (take n ts) (take n vs) (take n ds)
+  pub front-alike : Alike (take n ts) (take n vs) (take n ds)
   front-alike =
       let v : length vs ≡ length ts = a .values in
       let d : length ds ≡ length ts = a .diffs in
@@ -75,7 +75,7 @@ module _ (ts vs : List ℕ) (ds : List ℤ) (a : Alike ts vs ds) (n : ℕ) (h : 
   front-values : take n vs ≡ map valueOf (take n (edits ts vs ds))
   front-values = rw (← edits-take ts vs ds a n) (sym (values-edits (take n ts) (take n vs) (take n ds) front-alike))
 
-  front-diffs : take n ds ≡ map diffOf (take n (edits ts vs ds))
+  pub front-diffs : take n ds ≡ map diffOf (take n (edits ts vs ds))
   front-diffs = rw (← edits-take ts vs ds a n) (sym (diffs-edits (take n ts) (take n vs) (take n ds) front-alike))
 
   front-length : length (take n (edits ts vs ds)) ≡ n
@@ -104,22 +104,12 @@ module _ {ts vs : List ℕ} {ds : List ℤ} {at : ℕ} {us ws : List ℕ} {es : 
       })
 
 -- ---- a step
-module _ {ts vs : List ℕ} {ds : List ℤ} {ms : List ℕ} {p : Place} {us ws : List ℕ} {es : List ℤ} {q : Place} {count : ℕ} {places firsts seconds : List ℕ} {sums : List ℤ}
-    (l : LentTurn ts vs ds ms p us ws es q count places firsts seconds sums) where
+module _ {ts vs : List ℕ} {ds : List ℤ} {ms : List ℕ} {p : Place} {us ws : List ℕ} {es : List ℤ} {q : Place} {count : ℕ} (l : LentTurn ts vs ds ms p us ws es q count) where
   counted-within : q .count ≤ length us
   counted-within = omega (arith, l .other-placed .behind, l .other-placed .within)
 
-  pub lent-buffer : LentBuffer (q .count) us ws es places firsts seconds sums
-  lent-buffer =
-      record {
-        alike = l .other-alike;
-        within = counted-within;
-        bounded = omega (arith, l .other-small);
-        room-places = l .room-places;
-        room-firsts = l .room-firsts;
-        room-seconds = l .room-seconds;
-        room-sums = l .room-sums;
-      }
+  pub lent-other : LentOther (q .count) us ws es
+  lent-other = record { alike = l .other-alike; within = counted-within; bounded = omega (arith, l .other-small); few = l .other-few }
 
   module _ (us′ ws′ : List ℕ) (es′ : List ℤ) {n : ℕ} (w : AdvancesEdits (meets (drop (p .at) ts) none) (q .count) (edits us ws es) (edits us′ ws′ es′) n) where
     pub counts-on : count + n < 2 ^ 63

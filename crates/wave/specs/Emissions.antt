@@ -1,6 +1,7 @@
 -- Emissions in four columns.
 --
 -- over xs k s: xs written over s from the place k on, as far as s goes
+-- mostEdits: at most so many edits a side
 -- mostDiff: 2^30, the most that the diffs of one history are in all
 -- Pairs: the pairs of one edit with those of three columns were appended. LentPairs: what that asks
 use Prim.Native.Nat.{ℕ, _+_, _≤_, _<_, _^_}
@@ -14,6 +15,9 @@ use Rattle.consolidation.specs.Entries.{mass}
 unfoldable pub over : {A : Type 0} → List A → ℕ → List A → List A
 over [] k s = s
 over (x ∷ xs) k s = over xs (k + 1) (set s k x)
+
+abbrev pub mostEdits : ℕ
+mostEdits = 1024
 
 abbrev pub mostDiff : ℕ
 mostDiff = 1073741824

@@ -1,3 +1,5 @@
 pub mod Heads
 pub mod Emissions
 pub mod Turns
+pub mod Replays
+pub mod Calls

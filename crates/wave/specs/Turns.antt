@@ -3,13 +3,13 @@
 -- emittedTime, emittedFirst, emittedSecond, emittedDiff: of an emission
 -- Emits es count …: the emissions es were written over four columns from the place `count` on, as far as those go
 -- nextOf: the edit at a place of a column
--- LentEdit: what the emissions of one edit ask. LentTurn: what a step asks. Turns: what it leaves
+-- LentEdit: what the emissions of one edit ask. LentOther: what the advance of the other's buffer asks. LentTurn: what a step asks. Turns: what it leaves
 use Prim.Native.Nat.{ℕ, _+_, _≤_, _<_, _^_}
 use mathlib.Core.List.{List, map}
 use mathlib.Core.Path.{_≡_}
 use lib.IntN.{ℤ, pos, natAbs}
 use lib.ListN.{length, take, drop, getD}
-use Rattle.consolidation.specs.Entries.{mass}
+use Rattle.consolidation.specs.Entries.{mass, mostMass}
 use Rattle.rules.specs.Histories.{Edit}
 use Rattle.rules.specs.Wave.{Emission, emission, advancedBy}
 use Rattle.histories.specs.declared.Place.{Place}
@@ -17,7 +17,7 @@ use Rattle.histories.specs.Places.{historyOf, Placed, StepsOne}
 use Rattle.histories.specs.Suffixes.{Suffixes}
 use Rattle.edits.specs.Edits.{Alike}
 use Rattle.edits.specs.Buffers.{noEdit}
-use Rattle.wave.specs.Emissions.{over, mostDiff}
+use Rattle.wave.specs.Emissions.{over, mostEdits, mostDiff}
 use Rattle.wave.specs.declared.steps.Turn.{Turn}
 
 abbrev pub emittedTime : Emission → ℕ
@@ -50,7 +50,13 @@ pub record LentEdit (ts vs : List ℕ) (ds : List ℤ) (at : ℕ) (us ws : List 
   pub other-small : mass (take n es) ≤ mostDiff
   pub counts : count + n < 2 ^ 63
 
-pub record LentTurn (ts vs : List ℕ) (ds : List ℤ) (ms : List ℕ) (p : Place) (us ws : List ℕ) (es : List ℤ) (q : Place) (count : ℕ) (places firsts seconds : List ℕ) (sums : List ℤ) : Type 0 where
+pub record LentOther (count : ℕ) (us ws : List ℕ) (es : List ℤ) : Type 0 where
+  pub alike : Alike us ws es
+  pub within : count ≤ length us
+  pub bounded : mass (take count es) ≤ mostMass
+  pub few : count ≤ mostEdits
+
+pub record LentTurn (ts vs : List ℕ) (ds : List ℤ) (ms : List ℕ) (p : Place) (us ws : List ℕ) (es : List ℤ) (q : Place) (count : ℕ) : Type 0 where
   pub alike : Alike ts vs ds
   pub placed : Placed (length ts) p
   pub more : p .at < length ts
@@ -60,10 +66,7 @@ pub record LentTurn (ts vs : List ℕ) (ds : List ℤ) (ms : List ℕ) (p : Plac
   pub other-placed : Placed (length us) q
   pub other-small : mass (take (q .count) es) ≤ mostDiff
   pub counts : count + q .count < 2 ^ 63
-  pub room-places : q .count ≤ length places
-  pub room-firsts : q .count ≤ length firsts
-  pub room-seconds : q .count ≤ length seconds
-  pub room-sums : q .count ≤ length sums
+  pub other-few : q .count ≤ mostEdits
 
 pub record Turns (es : List Edit) (p : Place) (fs : List Edit) (q : Place) (count : ℕ) (times firsts seconds : List ℕ) (diffs : List ℤ) (es′ fs′ : List Edit) (times′ firsts′ seconds′ : List ℕ) (diffs′ : List ℤ) (r : Turn) : Type 0 where
   pub stepped : StepsOne es p es′ (r .stepped)

@@ -1,4 +1,5 @@
 // One step of the wave.
+use crate::MOST_EDITS;
 use crate::emit::emit_pairs;
 use edits::advance_buffer_by;
 use edits::step;
@@ -11,9 +12,9 @@ ghost use lib.ListN.{take, drop, getD};
 ghost use Rattle.grid.specs.Times.{meets};
 ghost use Rattle.rules.specs.Wave.{emission};
 ghost use Rattle.histories.specs.Suffixes.{Suffixes};
-ghost use Rattle.edits.specs.Buffers.{noEdit, AdvancesEdits, LentBuffer};
+ghost use Rattle.edits.specs.Buffers.{noEdit, AdvancesEdits};
 ghost use Rattle.edits.specs.Edits.{edits};
-ghost use Rattle.wave.specs.Turns.{Emits, LentEdit, LentTurn, Turns};
+ghost use Rattle.wave.specs.Turns.{Emits, LentEdit, LentOther, LentTurn, Turns};
 
 // The places after a step, the stepped history's and the other's, and how many pairs were emitted so far.
 pub struct Turn {
@@ -22,7 +23,8 @@ pub struct Turn {
     pub count: usize,
 }
 
-// Advances the other's buffer by the meet of what is ahead.
+// Advances the other's buffer by the meet of what is ahead. The work memory is its own: lent, it would be four more slices in every function
+// above this one.
 fn advance_beside(
     times: &[u64],
     suffixes: &[u64],
@@ -31,14 +33,14 @@ fn advance_beside(
     othervalues: &mut [u64],
     otherdiffs: &mut [i64],
     count: usize,
-    places: &mut [u64],
-    firsts: &mut [u64],
-    seconds: &mut [u64],
-    sums: &mut [i64],
 ) -> usize
-    requires { ⌜ Suffixes (now times) (now suffixes) at × LentBuffer count (now othertimes) (now othervalues) (now otherdiffs) (now places) (now firsts) (now seconds) (now sums) ⌝ }
+    requires { ⌜ Suffixes (now times) (now suffixes) at × LentOther count (now othertimes) (now othervalues) (now otherdiffs) ⌝ }
     ensures { λ r. ⌜ AdvancesEdits (meets (drop at (now (times .entry))) none) count (edits (now (othertimes .entry)) (now (othervalues .entry)) (now (otherdiffs .entry))) (edits (now (othertimes .exit)) (now (othervalues .exit)) (now (otherdiffs .exit))) r ⌝ }
 {
+    let mut places = [0u64; MOST_EDITS];
+    let mut firsts = [0u64; MOST_EDITS];
+    let mut seconds = [0u64; MOST_EDITS];
+    let mut sums = [0i64; MOST_EDITS];
     let m = meet_ahead(times, suffixes, at);
     advance_buffer_by(
         othertimes,
@@ -46,10 +48,10 @@ fn advance_beside(
         otherdiffs,
         count,
         m,
-        places,
-        firsts,
-        seconds,
-        sums,
+        &mut places,
+        &mut firsts,
+        &mut seconds,
+        &mut sums,
     )
 }
 
@@ -106,12 +108,8 @@ pub fn step_beside(
     outothers: &mut [u64],
     outdiffs: &mut [i64],
     count: usize,
-    places: &mut [u64],
-    firsts: &mut [u64],
-    seconds: &mut [u64],
-    sums: &mut [i64],
 ) -> Turn
-    requires { ⌜ LentTurn (now times) (now values) (now diffs) (now suffixes) p (now othertimes) (now othervalues) (now otherdiffs) q count (now places) (now firsts) (now seconds) (now sums) ⌝ }
+    requires { ⌜ LentTurn (now times) (now values) (now diffs) (now suffixes) p (now othertimes) (now othervalues) (now otherdiffs) q count ⌝ }
     ensures { λ r. ⌜ Turns (edits (now (times .entry)) (now (values .entry)) (now (diffs .entry))) p (edits (now (othertimes .entry)) (now (othervalues .entry)) (now (otherdiffs .entry))) q count (now (outtimes .entry)) (now (outvalues .entry)) (now (outothers .entry)) (now (outdiffs .entry)) (edits (now (times .exit)) (now (values .exit)) (now (diffs .exit))) (edits (now (othertimes .exit)) (now (othervalues .exit)) (now (otherdiffs .exit))) (now (outtimes .exit)) (now (outvalues .exit)) (now (outothers .exit)) (now (outdiffs .exit)) r ⌝ }
 {
     let n = advance_beside(
@@ -122,10 +120,6 @@ pub fn step_beside(
         othervalues,
         otherdiffs,
         q.count,
-        places,
-        firsts,
-        seconds,
-        sums,
     );
     emit_edit(
         times,

@@ -1,14 +1,10 @@
 use Rattle.wave.proofs.Emissions.{product-fits, product-is}
 use Rattle.wave.proofs.emit.product.Statement.{statement}
 use Rattle.wave.proofs.emit.product.Tie as tie
-use Rattle.wave.proofs.emit.product.Reads as reads
-use Rattle.wave.proofs.emit.product.Lts as lts
 
--- src/emit.rt:33:5
 mul-result : tie.Need-mul-result
 mul-result c = product-fits (c .args .d) (c .args .e) (c .pre .0) (c .pre .1)
 
--- src/emit.rt:29:1
 returns : tie.Need-returns
 returns c = product-is (c .args .d) (c .args .e) (c .pre .0) (c .pre .1)
 
