@@ -2,21 +2,16 @@
 --
 -- going-end: nothing remains. going-more, going-less: a step more, which lowers the measure
 -- Stands upper R s more: where the loop stands. left: what is left of it. stands-start, stands-short, stands-turn, stands-less, stands-end: the loop keeps that
-use Prim.Native.Nat.{ℕ, zero, suc, _<_, _≤_}
+use Prim.Native.Nat.{ℕ, zero, suc, _<_}
 use native.Mathlib.Omega.{arith}
 use mathlib.Core.Bool.{Bool, true, false, cond, true≢false}
 use mathlib.Core.List.{List}
 use mathlib.Core.Option.{none, some, Option·none-ne-some}
 use mathlib.Core.Path.{_≡_, refl, sym, _∙_, ap}
-use lib.Dec.{eqb}
-use lib.ListN.{length}
-use borrow.Author.Tests.{not-true, ltb-false}
-use Rattle.grid.specs.Frontiers.{shortOf, beyond}
-use Rattle.grid.proofs.Tests.{by-test, clash, or-false-l, or-false-r}
-use Rattle.grid.proofs.Lists.{all-of, keep-all, all-puts}
-use Rattle.rules.specs.Discover.{mostMoments, State, next, made, waitingPast, momentsPast, passes, acted, remeet, step, run}
-use Rattle.rules.proofs.Order.{next-over, all-past}
-use Rattle.rules.proofs.Fuel.{measure, Bounded, measure-falls}
+use Rattle.grid.proofs.Tests.{by-test, clash}
+use Rattle.rules.specs.Discover.{State, next, step, run}
+use Rattle.rules.proofs.Order.{next-over}
+use Rattle.rules.proofs.Fuel.{measure, over-stops, spare, step-bounded, measure-falls}
 use Rattle.steps.specs.Walks.{Steps}
 use Rattle.discover.specs.Walking.{Short, Turned, stop, go, Going, on, off, Ended, Begun}
 
@@ -29,40 +24,25 @@ pub run-some : (upper : List ℕ) (k n : ℕ) (s : State) → next s ≡ some n 
 unfolding run
 run-some upper k n s e = rw (e, run)
 
-pub over-none : (s : State) → s .over ≡ true → next s ≡ none
-unfolding next
-over-none s o = rw o
-
-pub bounded-step : (upper : List ℕ) (n : ℕ) (s : State) → Bounded upper s → Bounded upper (step upper n s)
-unfolding step remeet acted waitingPast passes
-bounded-step upper n s b = record {
-  short = all-puts (keep-all (shortOf upper) (all-of (λ x e. not-true (beyond upper x) e) (made upper n s))) (all-past (eqb n) (b .short));
-  few = λ e. ltb-false mostMoments (length (momentsPast upper n s)) (or-false-l (passes (momentsPast upper n s)) _ (or-false-r (s .over) _ e));
-}
-
-pub spare : (s : State) → length (s .moments) ≤ mostMoments → measure s ≤ 0 → ⊥
-unfolding measure
-spare s a b = omega arith
-
 module _ {upper : List ℕ} {R : State} where
   going-end : {s : State} → Going upper R s → next s ≡ none → Ended R s
   going-end {s} (on k m r o b) e = let q : s ≡ R = sym (run-none upper k s e) ∙ r in record { over-is = ap (λ (t : State). t .over) q; same = λ _. q }
   going-end {s} (off o r) e = record { over-is = o ∙ sym r; same = λ f. clash (s .over) o f }
 
   going-more : {s s′ : State} (n : ℕ) → Going upper R s → next s ≡ some n → Steps upper n s s′ → Going upper R s′
-  going-more {s} {s′} n (off o r) e st = absurd (Option·none-ne-some n (sym (over-none s o) ∙ e))
+  going-more {s} {s′} n (off o r) e st = absurd (Option·none-ne-some n (sym (over-stops s o) ∙ e))
   going-more {s} {s′} n (on zero m r o b) e st = absurd (spare s (b .few o) m)
   going-more {s} {s′} n (on (suc k) m r o b) e st =
       let r′ : run upper k (step upper n s) ≡ R = sym (run-some upper k n s e) ∙ r in
       let d : measure (step upper n s) < measure s = measure-falls upper n s b e in
       by-test (s′ .over)
       (λ x. let y : step upper n s .over ≡ true = sym (st .over-is) ∙ x in
-      off x (sym (ap (λ (z : State). z .over) (sym (run-none upper k (step upper n s) (over-none (step upper n s) y)) ∙ r′)) ∙ y))
+      off x (sym (ap (λ (z : State). z .over) (sym (run-none upper k (step upper n s) (over-stops (step upper n s) y)) ∙ r′)) ∙ y))
       (λ x. let q : s′ ≡ step upper n s = st .same x in
-      rw q (on k (omega arith) r′ (sym (st .over-is) ∙ x) (bounded-step upper n s b)))
+      rw q (on k (omega arith) r′ (sym (st .over-is) ∙ x) (step-bounded upper n s b)))
 
   going-less : {s s′ : State} (n : ℕ) → Going upper R s → next s ≡ some n → Steps upper n s s′ → s′ .over ≡ false → measure s′ < measure s
-  going-less {s} {s′} n (off o r) e st f = absurd (Option·none-ne-some n (sym (over-none s o) ∙ e))
+  going-less {s} {s′} n (off o r) e st f = absurd (Option·none-ne-some n (sym (over-stops s o) ∙ e))
   going-less {s} {s′} n (on k m r o b) e st f = rw (st .same f) (measure-falls upper n s b e)
 
 pub record Stands (upper : List ℕ) (R s : State) (more : Bool) : Type 0 where

@@ -1,7 +1,7 @@
 -- The laws of discover_times, about what the code answers.
 --
 -- answered D moments pended: the state D with the moments and the pended times of an answer
--- found-lawful: the answer has the laws that the rules prove of the definition. The pending times of an accepted call ascend
+-- found-lawful: what was found has the laws that the rules prove of the definition. The pending times of an accepted call ascend
 use Prim.Native.Nat.{ℕ}
 use mathlib.Core.Bool.{true, false}
 use mathlib.Core.List.{List}

@@ -4,4 +4,6 @@ pub mod Starting
 pub mod Loadings
 pub mod Finds
 pub mod Turns
+pub mod Masses
+pub mod Limits
 pub mod Laws

@@ -6,13 +6,12 @@ use native.Mathlib.Omega.{arith}
 use mathlib.Core.List.{List}
 use mathlib.Core.Option.{Option, none, some}
 use mathlib.Core.Path.{_≡_, refl, sym, _∙_}
-use Rattle.grid.proofs.Lists.{nil}
 use Rattle.rules.specs.Histories.{Edit}
 use Rattle.rules.specs.Discover.{State, start, next, step, run, discover}
 use Rattle.rules.proofs.Order.{next-over}
-use Rattle.rules.proofs.Fuel.{measure, Bounded, measure-falls, discover-ends}
+use Rattle.rules.proofs.Fuel.{measure, spare, Bounded, step-bounded, measure-falls, start-bounded, discover-ends}
 use Rattle.discover.specs.Walking.{Begun}
-use Rattle.discover.proofs.Going.{run-none, run-some, spare, bounded-step}
+use Rattle.discover.proofs.Going.{run-none, run-some}
 
 module _ (upper : List ℕ) where
   run-settled : (j k : ℕ) (s : State) → Bounded upper s → next (run upper j s) ≡ none → measure s ≤ k → run upper k s ≡ run upper j s
@@ -25,12 +24,12 @@ module _ (upper : List ℕ) where
       go (some n) f zero h ih = absurd (spare s (b .few (next-over s n f)) h)
       go (some n) f (suc k) h ih =
           let d : measure (step upper n s) < measure s = measure-falls upper n s b f in
-          run-some upper k n s f ∙ ih k (step upper n s) (bounded-step upper n s b) (rw (run-some upper j n s f) at e) (omega arith) ∙ sym (run-some upper j n s f)
+          run-some upper k n s f ∙ ih k (step upper n s) (step-bounded upper n s b) (rw (run-some upper j n s f) at e) (omega arith) ∙ sym (run-some upper j n s f)
 
   module _ (seeds pending : List ℕ) (input : List Edit) (output : List ℕ) where
     pub start-begun : Begun upper (start seeds pending input output)
     unfolding start
-    start-begun = record { within = refl; bounded = record { short = nil; few = λ e. omega arith } }
+    start-begun = record { within = refl; bounded = start-bounded upper seeds pending input output }
 
     pub discover-run : run upper (measure (start seeds pending input output)) (start seeds pending input output) ≡ discover upper seeds pending input output
     unfolding discover

@@ -2,31 +2,26 @@
 --
 -- over-stop: a limit was passed. next-is: the least of the heads that the code reads is the next time. none-stop: nothing remains. calm: what a step asks
 -- worked-kept, kept-on: what the columns keep, after a step. Long: the slices are as long as they were. long-start, long-more: the loop keeps that
-use Prim.Native.Nat.{ℕ, zero, suc, _-_, _≤_}
+use Prim.Native.Nat.{ℕ, _-_, _≤_}
 use native.Mathlib.Omega.{arith}
 use native.Mathlib.Nat.{sub-zero}
 use mathlib.Core.Bool.{true, false}
-use mathlib.Core.List.{List, [], _∷_, _++_, map}
+use mathlib.Core.List.{List, _++_, map}
 use mathlib.Core.Option.{Option, none, some}
 use mathlib.Core.Path.{_≡_, refl, sym, _∙_, ap}
 use lib.IntN.{ℤ}
 use lib.ListN.{length, take, drop}
 use Rattle.times.specs.Meets.{optional}
 use Rattle.times.specs.declared.optional.Meet.{Meet}
-use Rattle.rules.specs.Histories.{Edit, timeOf}
+use Rattle.rules.specs.Histories.{timeOf}
 use Rattle.rules.specs.Discover.{State, least, heads, next}
+use Rattle.rules.proofs.Fuel.{over-stops}
 use Rattle.histories.specs.Places.{historyOf}
 use Rattle.edits.specs.Edits.{edits, Alike}
-use Rattle.edits.proofs.Edits.{times-edits}
+use Rattle.edits.proofs.Edits.{times-edits, map-drop}
 use Rattle.steps.specs.Walks.{overOf, stateOf, Standing, Known, Roomy, Worked, Calm, Steps}
 use Rattle.steps.specs.declared.Walk.{Walk}
 use Rattle.discover.specs.Walking.{Kept, Short, Turned, stop, go}
-use Rattle.discover.proofs.Going.{over-none}
-
-map-drop : (i : ℕ) (E : List Edit) → map timeOf (drop i E) ≡ drop i (map timeOf E)
-map-drop zero E = refl
-map-drop (suc i) [] = refl
-map-drop (suc i) (e ∷ E) = map-drop i E
 
 module _ (seeds pending times values : List ℕ) (diffs : List ℤ) (output waiting tracked moments pended : List ℕ) (p : Walk) where
   abbrev S : State
@@ -34,7 +29,7 @@ module _ (seeds pending times values : List ℕ) (diffs : List ℤ) (output wait
 
   pub over-stop : {upper : List ℕ} → overOf p ≡ true → Turned upper S S false
   unfolding stateOf
-  over-stop e = stop refl (over-none S e) refl
+  over-stop e = stop refl (over-stops S e) refl
 
   pub calm : {upper : List ℕ} → Short upper S → overOf p ≡ false → Calm upper S
   unfolding stateOf
@@ -45,7 +40,7 @@ module _ (seeds pending times values : List ℕ) (diffs : List ℤ) (output wait
       → next S ≡ o
   unfolding stateOf historyOf next heads
   next-is a e f =
-      let t : map timeOf (drop (p .input .at) (edits times values diffs)) ≡ drop (p .input .at) times = map-drop (p .input .at) (edits times values diffs) ∙ ap (drop (p .input .at)) (times-edits times values diffs a) in
+      let t : map timeOf (drop (p .input .at) (edits times values diffs)) ≡ drop (p .input .at) times = sym (map-drop timeOf (p .input .at) (edits times values diffs)) ∙ ap (drop (p .input .at)) (times-edits times values diffs a) in
       rw (e, t) (sym (rw sub-zero at f))
 
   pub none-stop : {upper : List ℕ} → Alike times values diffs → overOf p ≡ false → (o : Meet)

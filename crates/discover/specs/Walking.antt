@@ -6,10 +6,10 @@
 -- Going upper R s: the walk ends in R, and stands at s: the rest of the walk from s ends in R; or a limit was passed, in R too
 -- Ended R s: s is R; or a limit was passed in both
 -- Begun upper s: no limit was passed, and nothing waits that is not short of upper
--- firstWalk m: the walk that starts with the meet m
+-- firstWalk m: the walk that starts with the meet m. firstState: the state in which it starts
 use Prim.Native.Nat.{ℕ, _≤_}
 use mathlib.Core.Bool.{Bool, true, false}
-use mathlib.Core.List.{List}
+use mathlib.Core.List.{List, []}
 use mathlib.Core.Option.{none, some}
 use mathlib.Core.Path.{_≡_}
 use lib.IntN.{ℤ}
@@ -17,7 +17,7 @@ use Rattle.grid.specs.Frontiers.{beyond}
 use Rattle.grid.proofs.Lists.{All}
 use Rattle.rules.specs.Discover.{State, next, run}
 use Rattle.rules.proofs.Fuel.{measure, Bounded}
-use Rattle.steps.specs.Walks.{Standing, Known, Roomy, Worked, Steps}
+use Rattle.steps.specs.Walks.{stateOf, Standing, Known, Roomy, Worked, Steps}
 use Rattle.steps.specs.declared.Walk.{Walk}
 use Rattle.times.specs.declared.optional.Meet.{Meet}
 
@@ -49,3 +49,7 @@ pub record Begun (upper : List ℕ) (s : State) : Type 0 where
 -- nothing was replayed
 abbrev pub firstWalk : Meet → Walk
 firstWalk m = record { seeds = record { count = 0; at = 0 }; pending = 0; input = record { count = 0; at = 0 }; output = record { count = 0; at = 0 }; waiting = 0; tracked = 0; moments = 0; pended = 0; m = m }
+
+-- the state of what was loaded, before the first step
+abbrev pub firstState : List ℕ → List ℕ → List ℕ → List ℕ → List ℤ → List ℕ → Meet → State
+firstState seeds pending times values diffs output m = stateOf seeds pending times values diffs output [] [] [] [] (firstWalk m)

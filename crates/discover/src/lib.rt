@@ -1,8 +1,9 @@
 // discover_times, per key.
+mod key;
 mod loads;
 mod walks;
 
-pub use walks::walk;
+pub use key::discover_key;
 
 // How many moments and pended times there are, and whether a limit was passed, in which case they mean nothing.
 pub struct Found {

@@ -6,12 +6,13 @@ use times::Meet;
 use times::meet_of;
 use times::meets;
 ghost use mathlib.Core.Path.{_≡_};
-ghost use Prim.Native.Nat.{_≤_};
+ghost use mathlib.Core.List.{_++_};
+ghost use Prim.Native.Nat.{_+_, _≤_};
 ghost use lib.ListN.{length, take};
-ghost use Rattle.histories.specs.Suffixes.{Suffixes};
+ghost use Rattle.rules.specs.Histories.{suffixMeets};
 ghost use Rattle.edits.specs.Edits.{edits};
 ghost use Rattle.edits.specs.Buffers.{LentLoad};
-ghost use Rattle.discover.specs.Finding.{Loading};
+ghost use Rattle.discover.specs.Finding.{Loading, allMeets};
 
 // How many edits were loaded, and the meet of seeds and pending.
 pub struct Loaded {
@@ -36,7 +37,7 @@ pub fn load(
     places: &mut [u64],
 ) -> Loaded
     requires { ⌜ LentLoad (now intimes) (now invalues) (now indiffs) (now work) (now places) (now times) (now values) (now diffs) ⌝ }
-    requires { ⌜ (length (now seeds) ≡ length (now seedtimes)) × ((length (now output) ≡ length (now outtimes)) × ((length (now seedtimes) ≤ length (now work)) × (length (now outtimes) ≤ length (now work)))) ⌝ }
+    requires { ⌜ (length (now seedtimes) ≤ length (now seeds)) × ((length (now outtimes) ≤ length (now output)) × ((length (now seedtimes) ≤ length (now work)) × (length (now outtimes) ≤ length (now work)))) ⌝ }
     ensures { λ r. ⌜ Loading (now (seedtimes .entry)) (now (pending .entry)) (edits (now (intimes .entry)) (now (invalues .entry)) (now (indiffs .entry))) (length (now (intimes .entry))) (now (outtimes .entry)) (now (seeds .exit)) (edits (now (times .exit)) (now (values .exit)) (now (diffs .exit))) (now (output .exit)) r ⌝ }
 {
     let m = meets(seedtimes, meet_of(pending));
@@ -56,23 +57,33 @@ pub fn load(
     Loaded { count, m }
 }
 
-// Writes the meets of all suffixes of what was loaded, and of the pending times.
+// Appends the meets of all suffixes of the first `count` times to the first `at` of a column. Returns where they end.
+fn append_meets(times: &[u64], count: usize, column: &mut [u64], at: usize) -> usize
+    requires { ⌜ (count ≤ length (now times)) × (at + count ≤ length (now column)) ⌝ }
+    ensures { λ r. ⌜ r ≡ at + count ⌝ }
+    ensures { λ r. ⌜ take r (now (column .exit)) ≡ take at (now (column .entry)) ++ suffixMeets (take count (now (times .entry))) ⌝ }
+{
+    let to = at + count;
+    suffix_meets(times, count, &mut column[at..to]);
+    to
+}
+
+// Writes the meets of all suffixes of what was loaded, and of the pending times, one after the other.
 pub fn suffixes(
     seeds: &[u64],
-    seedm: &mut [u64],
+    scount: usize,
     pending: &[u64],
-    pendm: &mut [u64],
     times: &[u64],
     count: usize,
-    inputm: &mut [u64],
     output: &[u64],
-    outputm: &mut [u64],
+    ocount: usize,
+    column: &mut [u64],
 )
-    requires { ⌜ (length (now seeds) ≤ length (now seedm)) × ((length (now pending) ≤ length (now pendm)) × ((count ≤ length (now times)) × ((count ≤ length (now inputm)) × (length (now output) ≤ length (now outputm))))) ⌝ }
-    ensures { λ _. ⌜ Suffixes (now (seeds .entry)) (now (seedm .exit)) 0 × (Suffixes (now (pending .entry)) (now (pendm .exit)) 0 × (Suffixes (take count (now (times .entry))) (now (inputm .exit)) 0 × Suffixes (now (output .entry)) (now (outputm .exit)) 0)) ⌝ }
+    requires { ⌜ (scount ≤ length (now seeds)) × ((count ≤ length (now times)) × ((ocount ≤ length (now output)) × (((scount + length (now pending)) + count) + ocount ≤ length (now column)))) ⌝ }
+    ensures { λ _. ⌜ take (((scount + length (now (pending .entry))) + count) + ocount) (now (column .exit)) ≡ allMeets (take scount (now (seeds .entry))) (now (pending .entry)) (take count (now (times .entry))) (take ocount (now (output .entry))) ⌝ }
 {
-    suffix_meets(seeds, seeds.len(), seedm);
-    suffix_meets(pending, pending.len(), pendm);
-    suffix_meets(times, count, inputm);
-    suffix_meets(output, output.len(), outputm);
+    let a = append_meets(seeds, scount, column, 0);
+    let b = append_meets(pending, pending.len(), column, a);
+    let c = append_meets(times, count, column, b);
+    append_meets(output, ocount, column, c);
 }

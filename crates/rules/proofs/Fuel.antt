@@ -2,7 +2,8 @@
 -- that `discover` allows suffice.
 --
 -- measure: what was loaded and is ahead, and how many moments may still come
--- Bounded: of a state, what bounds its measure. waiting-moment: a waiting join becomes a moment. moments-grow, moments-grew: moments stay, and come
+-- over-stops: once a limit was passed, there is no next time. spare: of a state without a limit passed, the measure is not 0
+-- Bounded: of a state, what bounds its measure. start-bounded, step-bounded: it holds at the start, and a step keeps it. waiting-moment: a waiting join becomes a moment. moments-grow, moments-grew: moments stay, and come
 -- measure-falls: each step lowers the measure
 -- run-ends: a run of as many steps as the measure ends. discover-ends: so there is no next time where `discover` stops
 use Prim.Native.Nat.{ℕ, zero, suc, _+_, _-_, _<_, _≤_}
@@ -96,9 +97,14 @@ still-heads n s c =
 next-stirs : (n : ℕ) (s : State) → next s ≡ some n → stirs n s ≡ true
 next-stirs n s e = by-test (stirs n s) (λ c. c) (λ c. absurd (next-head (λ x. n ≡ x → ⊥) s n e (still-heads n s c) refl))
 
-over-stops : (s : State) → s .over ≡ true → next s ≡ none
+pub over-stops : (s : State) → s .over ≡ true → next s ≡ none
 unfolding next
 over-stops s o = rw o
+
+-- a state without a limit passed has steps to spare
+pub spare : (s : State) → length (s .moments) ≤ mostMoments → measure s ≤ 0 → ⊥
+unfolding measure
+spare s a b = omega arith
 
 module _ (upper : List ℕ) where
   -- what holds at every state: waiting joins are short of upper, and without a limit passed there are at most 1,024 moments
@@ -107,7 +113,7 @@ module _ (upper : List ℕ) where
     pub few : s .over ≡ false → length (s .moments) ≤ mostMoments
 
   module _ (n : ℕ) (s : State) where
-    step-bounded : Bounded s → Bounded (step upper n s)
+    pub step-bounded : Bounded s → Bounded (step upper n s)
     unfolding step remeet acted waitingPast passes
     step-bounded b = record {
       short = all-puts (keep-all (shortOf upper) (all-of (λ x e. not-true (beyond upper x) e) (made upper n s))) (all-past (eqb n) (b .short));
@@ -164,10 +170,6 @@ module _ (upper : List ℕ) where
         (λ w. omega (arith, ahead-falls, moments-grew (waiting-moment b w)))
         (λ w. omega (arith, moments-grow, ahead-less (next-stirs n s e) w))
 
-  spare : (s : State) → length (s .moments) ≤ mostMoments → measure s ≤ 0 → ⊥
-  unfolding measure
-  spare s a b = omega arith
-
   pub run-ends : (k : ℕ) (s : State) → Bounded s → (s .over ≡ false → measure s ≤ k) → next (run upper k s) ≡ none
   unfolding run
   run-ends zero s b f = by-test (s .over) (λ o. over-stops s o) (λ o. absurd (spare s (b .few o) (f o)))
@@ -182,7 +184,7 @@ module _ (upper seeds pending : List ℕ) (input : List Edit) (output : List ℕ
   abbrev begun : State
   begun = start seeds pending input output
 
-  start-bounded : Bounded upper begun
+  pub start-bounded : Bounded upper begun
   unfolding start
   start-bounded = record { short = nil; few = λ e. omega arith }
 

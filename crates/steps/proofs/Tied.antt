@@ -1,7 +1,7 @@
 -- The parts of the code's step, at the state that the columns hold.
 --
 -- keen-is: what the code answers is whether n is interesting. code-step: what the code leaves is the step of the state
-use Prim.Native.Nat.{ℕ, zero, suc, _≤_}
+use Prim.Native.Nat.{ℕ, _≤_}
 use mathlib.Core.Bool.{Bool, true, false, cond, _&&_, _||_}
 use mathlib.Core.List.{List, [], _∷_, _++_, map}
 use mathlib.Core.Option.{none}
@@ -18,17 +18,12 @@ use Rattle.rules.specs.Histories.{Edit, History, TimeHistory, ValueHistory, tim
 use Rattle.rules.specs.Discover.{mostMoments, State, remaining, seedsPast, trackedPast, known, interesting, isMoment, inputPast, outputPast, madeOfBuffers, madeShort, madeBeyond, made, momentsPast, passes}
 use Rattle.histories.specs.Places.{historyOf}
 use Rattle.edits.specs.Edits.{edits, Alike}
-use Rattle.edits.proofs.Edits.{times-edits}
+use Rattle.edits.proofs.Edits.{times-edits, map-drop}
 use Rattle.joins.specs.Sets.{Grown}
 use Rattle.steps.specs.Parts.{seedsAfter, madeOf, Popping, Acting, Finishing}
 use Rattle.steps.specs.Walks.{stateOf, Calm, Steps}
 use Rattle.steps.specs.declared.Walk.{Walk}
 use Rattle.steps.proofs.States.{Fields, fields-step}
-
-map-drop : (i : ℕ) (E : List Edit) → map timeOf (drop i E) ≡ drop i (map timeOf E)
-map-drop zero E = refl
-map-drop (suc i) [] = refl
-map-drop (suc i) (e ∷ E) = map-drop i E
 
 abbrev held : {A : Type 0} → List A → List A → History A
 held ahead buffer = record { ahead = ahead; buffer = buffer }
@@ -105,7 +100,7 @@ module _ {n : ℕ} {seeds pending : List ℕ} (times values : List ℕ) (diffs :
       unfolding stateOf historyOf remaining
       left-is =
           sym (λ j. drop (same (λ w. w .seeds .at) j) seeds₁ ++ (drop (same (λ w. w .pending) j) pending
-          ++ ((map-drop (r .input .at) (edits times₂ values₂ diffs₂) ∙ ap (drop (r .input .at)) (times-edits times₂ values₂ diffs₂ al) ∙ ap (λ i. drop i times₂) (same (λ w. w .input .at))) j
+          ++ ((sym (map-drop timeOf (r .input .at) (edits times₂ values₂ diffs₂)) ∙ ap (drop (r .input .at)) (times-edits times₂ values₂ diffs₂ al) ∙ ap (λ i. drop i times₂) (same (λ w. w .input .at))) j
           ++ (drop (same (λ w. w .output .at) j) output₂ ++ take (same (λ w. w .waiting) j) waiting₂))))
 
       pub code-step : Calm upper S → a .waiting ≤ length waiting₂ → a .pended ≤ length pended₂ → a .moments ≤ length moments₂ → Steps upper n S T
