@@ -20,13 +20,12 @@ use borrow.Author.Tests.{ltb-false, eqb-true}
 use Rattle.grid.specs.Lists.{flat}
 use Rattle.grid.specs.Times.{at}
 use Rattle.grid.specs.Frontiers.{mostTimes}
-use Rattle.grid.specs.Records.{Row}
 use Rattle.grid.proofs.Tests.{by-test}
 use Rattle.grid.proofs.Times.{hi-at, lo-at}
 use Rattle.grid.proofs.Lists.{All, nil, cons}
 use Rattle.rules.specs.Call.{Request}
 use Rattle.form.specs.Text.{ascii}
-use Rattle.form.specs.Read.{mostBytes, mostLines, Reader, then, word, ending, number, max32, max63, max64, negated, signed, time, times, list, mode, line, row, pair, many, Asked, bad, asked, at-line, ended, Sections, sections, requestFrom, lineAfter, body, request, parse}
+use Rattle.form.specs.Read.{mostBytes, mostLines, Reader, then, word, ending, number, max32, max63, max64, negated, signed, time, times, list, mode, line, theRow, row, pair, many, Asked, bad, asked, at-line, ended, Sections, sections, requestFrom, lineAfter, body, request, parse}
 use Rattle.form.specs.Show.{decimal, signedDecimal, showTime, showMore, showList, showRow, showPair, showLine, showMode, showRequest}
 use Rattle.form.proofs.Digits.{same-some, not-some, number-is}
 use Rattle.form.proofs.Back.{list-times, RowFits, PairFits, TimesFit, LinesFit, Fits, shownRows, shownPairs, bodyText, request-text, request-back}
@@ -219,9 +218,6 @@ mode-only = record { only = λ s y e. go s y e (word (ascii "count") s) refl }
 -- ---- records
 row-joined : (k v t d r : List ℕ) → (k ++ (44 ∷ [])) ++ ((v ++ (44 ∷ [])) ++ ((t ++ (44 ∷ [])) ++ (d ++ r))) ≡ (k ++ (44 ∷ []) ++ v ++ (44 ∷ []) ++ t ++ (44 ∷ []) ++ d) ++ r
 row-joined k v t d r = simp append-assoc refl
-
-abbrev theRow : ℕ → ℕ → ℕ → ℤ → Row
-theRow k v t d = record { key = k; value = v; time = t; diff = d }
 
 row-from : {s s₁ s₂ s₃ : List ℕ} {k v t : ℕ} {d : ℤ} {r : List ℕ} →
     From (λ n. decimal n ++ (44 ∷ [])) (λ n. n ≤ max64) s (k, s₁) →

@@ -1,7 +1,7 @@
 -- How many bytes the text of an answer has.
 --
 -- TileFits, FixFits, AnswerFits: the parts of an answer are within their widths, and not too many
--- mostText: the bytes of the largest answer. answer-length: no text of an answer is longer
+-- mostText: the bytes of the largest answer. answer-length: no text of an answer is longer. bad-length: nor that of a bad line
 use Prim.Native.Nat.{ℕ, zero, suc, _+_, _-_, _*_, _/_, _%_, _≤_, _<_, _^_}
 use Prim.Native.String.{String}
 use native.Mathlib.Nat.{pow-succ', mul-suc}
@@ -23,7 +23,7 @@ use Rattle.rules.specs.Tiles.{Tile}
 use Rattle.rules.specs.Call.{Fix, Answer}
 use Rattle.rules.specs.Memory.{mostBound}
 use Rattle.form.specs.Text.{ascii}
-use Rattle.form.specs.Show.{digits, decimal, signedDecimal, showTime, showMore, showList, showRow, showPair, showLine, showTile, showFix, showResults, showAnswer}
+use Rattle.form.specs.Show.{digits, decimal, signedDecimal, showTime, showMore, showList, showRow, showPair, showLine, showTile, showFix, showResults, showAnswer, showBad}
 use Rattle.form.proofs.Digits.{digits-small, digits-step}
 use Rattle.form.proofs.Back.{PairFits}
 
@@ -46,8 +46,14 @@ decimal-length : (k n : ℕ) → n < 10 ^ suc k → length (decimal n) ≤ suc k
 unfolding decimal
 decimal-length k n h = digits-length 20 k n h
 
-decimal-20 : (n : ℕ) → n < 2 ^ 64 → length (decimal n) ≤ 20
-decimal-20 n h = decimal-length 19 n (omega arith)
+digits-most : (j n : ℕ) → length (digits j n) ≤ j
+unfolding digits
+digits-most zero n = omega arith
+digits-most (suc j) n = by-test (ltb n 10) (λ e. rw e (omega arith)) (λ e. rw (e, length-append) (omega (arith, digits-most j (n / 10))))
+
+decimal-20 : (n : ℕ) → length (decimal n) ≤ 20
+unfolding decimal
+decimal-20 n = digits-most 20 n
 
 time-length : (t : ℕ) → t < 2 ^ 64 → length (showTime t) ≤ 21
 unfolding showTime hi lo
@@ -122,11 +128,11 @@ tile-length t f =
     let h : length (showTime (t .held)) ≤ 21 = time-length (t .held) (f .held-fits) in
     simp length-append (omega arith)
 
-row-length : (r : Row) → r .key < 2 ^ 64 → r .value < 2 ^ 64 → r .time < 2 ^ 64 → natAbs (r .diff) ≤ 2147483648 → length (showRow r) ≤ 75
+row-length : (r : Row) → r .time < 2 ^ 64 → natAbs (r .diff) ≤ 2147483648 → length (showRow r) ≤ 75
 unfolding showRow
-row-length r k v t d =
-    let a : length (decimal (r .key)) ≤ 20 = decimal-20 (r .key) k in
-    let b : length (decimal (r .value)) ≤ 20 = decimal-20 (r .value) v in
+row-length r t d =
+    let a : length (decimal (r .key)) ≤ 20 = decimal-20 (r .key) in
+    let b : length (decimal (r .value)) ≤ 20 = decimal-20 (r .value) in
     let c : length (showTime (r .time)) ≤ 21 = time-length (r .time) t in
     let e : length (signedDecimal (r .diff)) ≤ 11 = diff-length (r .diff) d in
     simp length-append (omega arith)
@@ -136,13 +142,13 @@ unfolding showLine showFix
 fix-length f h =
     let t : f .tile < 16 = h .tile-fits in
     let a : length (decimal (f .tile)) ≤ 2 = decimal-length 1 (f .tile) (omega arith) in
-    let r : length (showRow (f .row)) ≤ 75 = row-length (f .row) (h .key-fits) (h .value-fits) (h .time-fits) (h .diff-fits) in
+    let r : length (showRow (f .row)) ≤ 75 = row-length (f .row) (h .time-fits) (h .diff-fits) in
     simp length-append (omega arith)
 
 pair-length : (p : ℕ × ℕ) → PairFits p → length (showLine "pend=" (showPair p)) ≤ 48
 unfolding showLine showPair
 pair-length p h =
-    let a : length (decimal (p .0)) ≤ 20 = decimal-20 (p .0) (h .key-fits) in
+    let a : length (decimal (p .0)) ≤ 20 = decimal-20 (p .0) in
     let t : length (showTime (p .1)) ≤ 21 = time-length (p .1) (h .time-fits) in
     simp length-append (omega arith)
 
@@ -164,7 +170,7 @@ results-length a f =
     let nt : length (a .tiles) ≤ 16 = f .few-tiles in
     let nf : length (a .fixes) ≤ 4096 = f .few-fixes in
     let np : length (a .pending) ≤ 4096 = f .few-pending in
-    let c : length (showLine "crossings=" (decimal (a .crossings))) ≤ 31 = line-length "crossings=" (decimal (a .crossings)) 20 (decimal-20 (a .crossings) (f .crossings-fit)) in
+    let c : length (showLine "crossings=" (decimal (a .crossings))) ≤ 31 = line-length "crossings=" (decimal (a .crossings)) 20 (decimal-20 (a .crossings)) in
     let t : length (flat (λ t. showLine "tile=" (showTile t)) (a .tiles)) ≤ 1391 * length (a .tiles) = flat-length (λ t. showLine "tile=" (showTile t)) 1391 (all-imp tile-length (f .tiles-fit)) in
     let x : length (flat (λ f. showLine "fix=" (showFix f)) (a .fixes)) ≤ 83 * length (a .fixes) = flat-length (λ f. showLine "fix=" (showFix f)) 83 (all-imp fix-length (f .fixes-fit)) in
     let p : length (flat (λ p. showLine "pend=" (showPair p)) (a .pending)) ≤ 48 * length (a .pending) = flat-length (λ p. showLine "pend=" (showPair p)) 48 (all-imp pair-length (f .pending-fit)) in
@@ -186,3 +192,11 @@ answer-length a f =
     let h : length (showLine "status=" (decimal (a .status))) ≤ 10 = line-length "status=" (decimal (a .status)) 2 (decimal-length 1 (a .status) (omega arith)) in
     let n : length (showLine "end=" []) ≡ 5 = end-length in
     rw e (simp length-append (omega arith)))
+
+pub bad-length : (n : ℕ) → length (showBad n) ≤ mostText
+unfolding showBad
+bad-length n =
+    let h : length (showLine "status=" (decimal 20)) ≤ 28 = line-length "status=" (decimal 20) 20 (decimal-20 20) in
+    let l : length (showLine "line=" (decimal n)) ≤ 26 = line-length "line=" (decimal n) 20 (decimal-20 n) in
+    let e : length (showLine "end=" []) ≡ 5 = end-length in
+    simp length-append (omega arith)

@@ -6,7 +6,7 @@
 --
 -- Reader: takes the bytes that are left, and answers what it read and the bytes after it, or none
 -- then, word, ending, line: readers put together
--- number, signed, time, list, mode, row, pair: what stands after the name of a line
+-- number, signed, time, list, mode, row, pair: what stands after the name of a line. theRow: a record from its parts
 -- many p k: as many as p reads, at most k; it never fails
 -- Sections: the lines of records. A bad, misplaced or 513th line of a kind is left for end, which refuses it with the right number
 -- Asked: a request, or the number of the first bad or missing line. parse: of all bytes
@@ -113,13 +113,16 @@ mode s = elim (word (ascii "count") s) [ some r ↦ some (1, r) | none ↦ then 
 unfoldable pub line : {A : Type 0} → List ℕ → Reader A → Reader A
 line name p s = then (word name s) (ending (ascii "\n") p)
 
+abbrev pub theRow : ℕ → ℕ → ℕ → ℤ → Row
+theRow k v t d = record { key = k; value = v; time = t; diff = d }
+
 unfoldable pub row : Reader Row
 row s =
     then (ending (ascii ",") (number max64) s) (λ k.
     then (ending (ascii ",") (number max64) (k .1)) (λ v.
     then (ending (ascii ",") time (v .1)) (λ t.
     then (signed (t .1)) (λ d.
-    some (record { key = k .0; value = v .0; time = t .0; diff = d .0 }, d .1)))))
+    some (theRow (k .0) (v .0) (t .0) (d .0), d .1)))))
 
 unfoldable pub pair : Reader (ℕ × ℕ)
 pair s =

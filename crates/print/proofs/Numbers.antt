@@ -2,7 +2,6 @@
 --
 -- decimal-one, decimal-more: the text of a number by its last digit
 -- taken-…, size-…, from-fits: the size of a diff has no overflow. text-below, text-from: the text of a diff by its sign
--- back: a diff that goes through a local is read back from its bits
 use Prim.Native.Nat.{ℕ, zero, suc, _+_, _-_, _*_, _/_, _%_, _≤_, _<_, _^_}
 use native.Mathlib.Nat.{pow-succ'}
 use native.Mathlib.Omega.{arith}
@@ -12,10 +11,10 @@ use mathlib.Core.Path.{_≡_, refl, sym, _∙_, ap, subst}
 use lib.Dec.{T, ltb}
 use lib.IntN.{ℤ, pos, negsuc, natAbs, _-ℤ_}
 use lib.Signed.{mag, nonNeg, ltZ}
-use mir.Facts.{toZ-ofZ}
 use mir.Syntax.{w64}
 use mir.Val.{toZ, ofZ, SFits, Fits}
 use borrow.Author.Tests.{ltb-true, ltb-false, le-ltb}
+use Rattle.grid.proofs.Signed.{back}
 use Rattle.form.proofs.Digits.{digits-small, digits-step}
 use Rattle.form.specs.Show.{digits, decimal, signedDecimal}
 
@@ -44,9 +43,6 @@ unfolding decimal
 decimal-one n h = sym (digits-small 19 n h)
 
 -- ---- the size of a diff, which goes through a local as its bits
-pub back : {z : ℤ} → mag z < 2 ^ 63 → toZ w64 (ofZ w64 z) ≡ z
-back h = toZ-ofZ (record { sfits = h })
-
 zero-one : {A : Type 0} → true ≡ false → A
 zero-one e = let q : _≡_ {A = ℕ} 1 0 = ap (λ b. cond b 1 0) e in absurd (omega arith)
 

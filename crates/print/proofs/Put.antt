@@ -15,8 +15,9 @@ use lib.Seq.{sets, length-sets, drop-cons, set-out}
 use borrow.Author.Tests.{ltb-true, ltb-false}
 use Rattle.grid.proofs.Tests.{by-test}
 use Rattle.grid.specs.Times.{hi, lo}
+use Rattle.form.specs.Read.{theRow}
 use Rattle.form.specs.Show.{decimal, signedDecimal, showTime, showMore, showList, showRow, showPair}
-use Rattle.print.specs.Put.{Put, theRow, showKeyValue}
+use Rattle.print.specs.Put.{Put, showKeyValue}
 
 sets-past : (xs l : List ℕ) (i : ℕ) → length l ≤ i → sets l i xs ≡ l
 sets-past [] l i h = refl

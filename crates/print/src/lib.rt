@@ -1,5 +1,8 @@
 // Writing what lines are made of into a slice of bytes, from a place on. Each function answers the place after what it wrote. It takes any
 // place: past the end nothing is written, and the place after it then lies past the end, too.
+use times::KeyHash;
+use times::PackedTime;
+use times::ValueId;
 ghost use Prim.Native.Nat.{_+_, _<_};
 ghost use mathlib.Core.Bool.{true, false};
 ghost use mathlib.Core.List.{[], _∷_};
@@ -7,8 +10,9 @@ ghost use mathlib.Core.Path.{_≡_};
 ghost use lib.IntN.{natAbs};
 ghost use lib.ListN.{drop};
 ghost use lib.Signed.{nonNeg};
+ghost use Rattle.form.specs.Read.{theRow};
 ghost use Rattle.form.specs.Show.{decimal, signedDecimal, showTime, showMore, showList, showRow, showPair};
-ghost use Rattle.print.specs.Put.{Put, theRow, showKeyValue};
+ghost use Rattle.print.specs.Put.{Put, showKeyValue};
 
 pub fn put_mark(out: &mut [u8], at: usize, b: u8) -> usize
     ensures { λ r. ⌜ Put (b ∷ []) (now (out .entry)) (now (out .exit)) at r ⌝ }
@@ -73,12 +77,12 @@ pub fn put_signed(out: &mut [u8], at: usize, d: i64) -> usize
     put_decimal(out, at, size_from_zero(d))
 }
 
-pub fn put_time(out: &mut [u8], at: usize, t: u64) -> usize
-    ensures { λ r. ⌜ Put (showTime t) (now (out .entry)) (now (out .exit)) at r ⌝ }
+pub fn put_time(out: &mut [u8], at: usize, t: PackedTime) -> usize
+    ensures { λ r. ⌜ Put (showTime (t .0)) (now (out .entry)) (now (out .exit)) at r ⌝ }
 {
-    let a = put_decimal(out, at, t / 4294967296);
+    let a = put_decimal(out, at, t.0 / 4294967296);
     let b = put_mark(out, a, 58);
-    put_decimal(out, b, t % 4294967296)
+    put_decimal(out, b, t.0 % 4294967296)
 }
 
 // The times from the place `first` on, each after a ";".
@@ -89,7 +93,7 @@ fn put_more(out: &mut [u8], from: usize, ts: &[u64], first: usize) -> usize
     let mut i = first;
     while i < ts.len() {
         let k = put_mark(out, at, 59);
-        at = put_time(out, k, ts[i]);
+        at = put_time(out, k, PackedTime(ts[i]));
         i += 1;
     }
     at
@@ -101,30 +105,37 @@ pub fn put_list(out: &mut [u8], at: usize, ts: &[u64]) -> usize
     if ts.len() == 0 {
         return put_mark(out, at, 45);
     }
-    let k = put_time(out, at, ts[0]);
+    let k = put_time(out, at, PackedTime(ts[0]));
     put_more(out, k, ts, 1)
 }
 
-pub fn put_pair(out: &mut [u8], at: usize, key: u64, time: u64) -> usize
-    ensures { λ r. ⌜ Put (showPair (key, time)) (now (out .entry)) (now (out .exit)) at r ⌝ }
+pub fn put_pair(out: &mut [u8], at: usize, key: KeyHash, time: PackedTime) -> usize
+    ensures { λ r. ⌜ Put (showPair (key .0, time .0)) (now (out .entry)) (now (out .exit)) at r ⌝ }
 {
-    let a = put_decimal(out, at, key);
+    let a = put_decimal(out, at, key.0);
     let b = put_mark(out, a, 44);
     put_time(out, b, time)
 }
 
 // A key and a value, each with the "," after it.
-fn put_key_value(out: &mut [u8], at: usize, key: u64, value: u64) -> usize
-    ensures { λ r. ⌜ Put (showKeyValue key value) (now (out .entry)) (now (out .exit)) at r ⌝ }
+fn put_key_value(out: &mut [u8], at: usize, key: KeyHash, value: ValueId) -> usize
+    ensures { λ r. ⌜ Put (showKeyValue (key .0) (value .0)) (now (out .entry)) (now (out .exit)) at r ⌝ }
 {
-    let a = put_decimal(out, at, key);
+    let a = put_decimal(out, at, key.0);
     let b = put_mark(out, a, 44);
-    let e = put_decimal(out, b, value);
+    let e = put_decimal(out, b, value.0);
     put_mark(out, e, 44)
 }
 
-pub fn put_row(out: &mut [u8], at: usize, key: u64, value: u64, time: u64, diff: i64) -> usize
-    ensures { λ r. ⌜ Put (showRow (theRow key value time diff)) (now (out .entry)) (now (out .exit)) at r ⌝ }
+pub fn put_row(
+    out: &mut [u8],
+    at: usize,
+    key: KeyHash,
+    value: ValueId,
+    time: PackedTime,
+    diff: i64,
+) -> usize
+    ensures { λ r. ⌜ Put (showRow (theRow (key .0) (value .0) (time .0) diff)) (now (out .entry)) (now (out .exit)) at r ⌝ }
 {
     let a = put_key_value(out, at, key, value);
     let b = put_time(out, a, time);

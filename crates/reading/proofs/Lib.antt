@@ -1,3 +1,3 @@
 pub mod Heads
-pub mod Clears
 pub mod Wholes
+pub mod Lent

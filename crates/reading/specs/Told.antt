@@ -7,9 +7,9 @@
 -- Room: the columns are long enough for every request
 -- part f a: a list of the request that was read, empty if there is none
 -- answered: the reader's answer to what was asked. countsOf: the counts in an answer, 0 after a refusal
--- WholeRead: the front of each column holds its list of the request
--- RunCleared, PairsCleared, ListsCleared, Cleared: each column is zero past its count
--- RequestRead: both, of the public function
+-- noLines, refusal: what is found where a line is bad. LinesStand: where the lines of each kind stand
+-- Looked: the front of each list's slice holds it. FrontRead: and what is past it is zero
+-- RequestRead: each column holds its list of the request, and zeros past it
 use Prim.Native.Nat.{ℕ, _+_, _≤_}
 use mathlib.Core.Path.{_≡_}
 use mathlib.Core.List.{List, [], map}
@@ -19,7 +19,11 @@ use lib.ListN.{drop, take, length}
 use Rattle.grid.specs.Lists.{padded}
 use Rattle.grid.specs.Frontiers.{mostTimes}
 use Rattle.rules.specs.Call.{Request as AnyRequest}
-use Rattle.form.specs.Read.{mostLines, Asked, bad, asked, body}
+use Rattle.form.specs.Text.{ascii}
+use Rattle.form.specs.Read.{mostLines, row, pair, line, Asked, bad, asked, body}
+use Rattle.records.specs.declared.Section.{Section}
+use Rattle.records.specs.declared.Lines.{Lines}
+use Rattle.records.specs.Told.{Stands}
 use Rattle.reading.specs.declared.Times.{Times}
 use Rattle.reading.specs.declared.Times.the-variants.{NotTimes, Times as AreTimes}
 use Rattle.reading.specs.declared.Head.{Head}
@@ -29,6 +33,7 @@ use Rattle.reading.specs.declared.End.the-variants.{BadEnd, End as IsEnd
 use Rattle.reading.specs.declared.Counts.{Counts}
 use Rattle.reading.specs.declared.Request.{Request}
 use Rattle.reading.specs.declared.Request.the-variants.{Bad, Asked as IsAsked}
+use Rattle.reading.specs.declared.Found.{Found}
 
 abbrev pub toldTimes : List ℕ → List ℕ → Times → Option (List ℕ × List ℕ)
 toldTimes s out NotTimes = none
@@ -116,85 +121,32 @@ abbrev pub countsOf : Request → Counts
 countsOf (Bad n) = record { lower = 0; upper = 0; held = 0; old = 0; new = 0; out = 0; pending = 0 }
 countsOf (IsAsked m w n) = n
 
-pub record WholeRead (a : Asked)
-    (lower′ upper′ held′ : List ℕ)
-    (oldKeys′ oldValues′ oldTimes′ : List ℕ)
-    (oldDiffs′ : List ℤ)
-    (newKeys′ newValues′ newTimes′ : List ℕ)
-    (newDiffs′ : List ℤ)
-    (outKeys′ outValues′ outTimes′ : List ℕ)
-    (outDiffs′ : List ℤ)
-    (pendingKeys′ pendingTimes′ : List ℕ)
-    (r : Request) : Type 0 where
-  pub told : r ≡ answered a
-  pub has-lower : take (countsOf r .lower) lower′ ≡ part (λ q. q .lower) a
-  pub has-upper : take (countsOf r .upper) upper′ ≡ part (λ q. q .upper) a
-  pub has-held : take (countsOf r .held) held′ ≡ part (λ q. q .held) a
-  pub has-oldKeys : take (countsOf r .old) oldKeys′ ≡ map (λ r. r .key) (part (λ q. q .old) a)
-  pub has-oldValues : take (countsOf r .old) oldValues′ ≡ map (λ r. r .value) (part (λ q. q .old) a)
-  pub has-oldTimes : take (countsOf r .old) oldTimes′ ≡ map (λ r. r .time) (part (λ q. q .old) a)
-  pub has-oldDiffs : take (countsOf r .old) oldDiffs′ ≡ map (λ r. r .diff) (part (λ q. q .old) a)
-  pub has-newKeys : take (countsOf r .new) newKeys′ ≡ map (λ r. r .key) (part (λ q. q .new) a)
-  pub has-newValues : take (countsOf r .new) newValues′ ≡ map (λ r. r .value) (part (λ q. q .new) a)
-  pub has-newTimes : take (countsOf r .new) newTimes′ ≡ map (λ r. r .time) (part (λ q. q .new) a)
-  pub has-newDiffs : take (countsOf r .new) newDiffs′ ≡ map (λ r. r .diff) (part (λ q. q .new) a)
-  pub has-outKeys : take (countsOf r .out) outKeys′ ≡ map (λ r. r .key) (part (λ q. q .out) a)
-  pub has-outValues : take (countsOf r .out) outValues′ ≡ map (λ r. r .value) (part (λ q. q .out) a)
-  pub has-outTimes : take (countsOf r .out) outTimes′ ≡ map (λ r. r .time) (part (λ q. q .out) a)
-  pub has-outDiffs : take (countsOf r .out) outDiffs′ ≡ map (λ r. r .diff) (part (λ q. q .out) a)
-  pub has-pendingKeys : take (countsOf r .pending) pendingKeys′ ≡ map (λ p. p .0) (part (λ q. q .pending) a)
-  pub has-pendingTimes : take (countsOf r .pending) pendingTimes′ ≡ map (λ p. p .1) (part (λ q. q .pending) a)
+abbrev pub noLines : Section
+noLines = record { first = 0; count = 0; next = 0 }
 
-pub record RunCleared (n : ℕ) (keys values times : List ℕ) (diffs : List ℤ) (keys′ values′ times′ : List ℕ) (diffs′ : List ℤ) : Type 0 where
-  pub zero-keys : keys′ ≡ padded 0 (length keys) (take n keys)
-  pub zero-values : values′ ≡ padded 0 (length values) (take n values)
-  pub zero-times : times′ ≡ padded 0 (length times) (take n times)
-  pub zero-diffs : diffs′ ≡ padded (pos 0) (length diffs) (take n diffs)
+abbrev pub refusal : ℕ → Found
+refusal n = record { answer = Bad n; lines = record { old = noLines; new = noLines; out = noLines; pending = noLines } }
 
-pub record PairsCleared (n : ℕ) (keys times keys′ times′ : List ℕ) : Type 0 where
-  pub zero-keys : keys′ ≡ padded 0 (length keys) (take n keys)
-  pub zero-times : times′ ≡ padded 0 (length times) (take n times)
+pub record LinesStand (s : List ℕ) (a : Asked) (x : Lines) : Type 0 where
+  pub old : Stands s (line (ascii "old=") row) (part (λ q. q .old) a) (x .old)
+  pub new : Stands s (line (ascii "new=") row) (part (λ q. q .new) a) (x .new)
+  pub out : Stands s (line (ascii "out=") row) (part (λ q. q .out) a) (x .out)
+  pub pending : Stands s (line (ascii "pend=") pair) (part (λ q. q .pending) a) (x .pending)
 
-pub record ListsCleared (n : Counts) (lower upper held lower′ upper′ held′ : List ℕ) : Type 0 where
-  pub zero-lower : lower′ ≡ padded 0 (length lower) (take (n .lower) lower)
-  pub zero-upper : upper′ ≡ padded 0 (length upper) (take (n .upper) upper)
-  pub zero-held : held′ ≡ padded 0 (length held) (take (n .held) held)
+pub record Looked (s : List ℕ) (a : Asked) (lower′ upper′ held′ : List ℕ) (x : Found) : Type 0 where
+  pub told : x .answer ≡ answered a
+  pub few : FewTimes (countsOf (x .answer) .lower, (countsOf (x .answer) .upper, countsOf (x .answer) .held))
+  pub has-lower : take (countsOf (x .answer) .lower) lower′ ≡ part (λ q. q .lower) a
+  pub has-upper : take (countsOf (x .answer) .upper) upper′ ≡ part (λ q. q .upper) a
+  pub has-held : take (countsOf (x .answer) .held) held′ ≡ part (λ q. q .held) a
+  pub stand : LinesStand s a (x .lines)
 
-pub record Cleared (n : Counts)
-    (lower upper held : List ℕ)
-    (oldKeys oldValues oldTimes : List ℕ)
-    (oldDiffs : List ℤ)
-    (newKeys newValues newTimes : List ℕ)
-    (newDiffs : List ℤ)
-    (outKeys outValues outTimes : List ℕ)
-    (outDiffs : List ℤ)
-    (pendingKeys pendingTimes : List ℕ)
-    (lower′ upper′ held′ : List ℕ)
-    (oldKeys′ oldValues′ oldTimes′ : List ℕ)
-    (oldDiffs′ : List ℤ)
-    (newKeys′ newValues′ newTimes′ : List ℕ)
-    (newDiffs′ : List ℤ)
-    (outKeys′ outValues′ outTimes′ : List ℕ)
-    (outDiffs′ : List ℤ)
-    (pendingKeys′ pendingTimes′ : List ℕ)
-    : Type 0 where
-  pub zero-lower : lower′ ≡ padded 0 (length lower) (take (n .lower) lower)
-  pub zero-upper : upper′ ≡ padded 0 (length upper) (take (n .upper) upper)
-  pub zero-held : held′ ≡ padded 0 (length held) (take (n .held) held)
-  pub zero-oldKeys : oldKeys′ ≡ padded 0 (length oldKeys) (take (n .old) oldKeys)
-  pub zero-oldValues : oldValues′ ≡ padded 0 (length oldValues) (take (n .old) oldValues)
-  pub zero-oldTimes : oldTimes′ ≡ padded 0 (length oldTimes) (take (n .old) oldTimes)
-  pub zero-oldDiffs : oldDiffs′ ≡ padded (pos 0) (length oldDiffs) (take (n .old) oldDiffs)
-  pub zero-newKeys : newKeys′ ≡ padded 0 (length newKeys) (take (n .new) newKeys)
-  pub zero-newValues : newValues′ ≡ padded 0 (length newValues) (take (n .new) newValues)
-  pub zero-newTimes : newTimes′ ≡ padded 0 (length newTimes) (take (n .new) newTimes)
-  pub zero-newDiffs : newDiffs′ ≡ padded (pos 0) (length newDiffs) (take (n .new) newDiffs)
-  pub zero-outKeys : outKeys′ ≡ padded 0 (length outKeys) (take (n .out) outKeys)
-  pub zero-outValues : outValues′ ≡ padded 0 (length outValues) (take (n .out) outValues)
-  pub zero-outTimes : outTimes′ ≡ padded 0 (length outTimes) (take (n .out) outTimes)
-  pub zero-outDiffs : outDiffs′ ≡ padded (pos 0) (length outDiffs) (take (n .out) outDiffs)
-  pub zero-pendingKeys : pendingKeys′ ≡ padded 0 (length pendingKeys) (take (n .pending) pendingKeys)
-  pub zero-pendingTimes : pendingTimes′ ≡ padded 0 (length pendingTimes) (take (n .pending) pendingTimes)
+pub record FrontRead (s : List ℕ) (a : Asked) (lower upper held lower′ upper′ held′ : List ℕ) (x : Found) : Type 0 where
+  pub told : x .answer ≡ answered a
+  pub is-lower : lower′ ≡ padded 0 (length lower) (part (λ q. q .lower) a)
+  pub is-upper : upper′ ≡ padded 0 (length upper) (part (λ q. q .upper) a)
+  pub is-held : held′ ≡ padded 0 (length held) (part (λ q. q .held) a)
+  pub stand : LinesStand s a (x .lines)
 
 pub record RequestRead (a : Asked)
     (lower upper held : List ℕ)

@@ -1,18 +1,18 @@
 // Reading a whole request into lent columns.
 use records::Lines;
+use records::Section;
 use scan::Num;
 use scan::Place;
+use scan::Time;
 ghost use Prim.Native.Nat.{_≤_, _<_};
 ghost use mathlib.Core.Path.{_≡_};
-ghost use lib.IntN.{pos};
-ghost use lib.ListN.{take, drop, length};
-ghost use Rattle.grid.specs.Lists.{padded};
+ghost use lib.ListN.{drop, length};
 ghost use Rattle.grid.specs.Frontiers.{mostTimes};
 ghost use Rattle.rules.specs.Call.{Request as AnyRequest};
 ghost use Rattle.form.specs.Text.{ascii};
 ghost use Rattle.form.specs.Read.{word, number, max64, times, list, mode, line, ended, request, parse};
 ghost use Rattle.scan.specs.Told.{toldNum};
-ghost use Rattle.reading.specs.Told.{toldTimes, timesCount, toldHead, headCounts, FewTimes, toldEnd, Few, LineAfter, Room, countsOf, WholeRead, ListsCleared, RunCleared, PairsCleared, Cleared, RequestRead};
+ghost use Rattle.reading.specs.Told.{toldTimes, timesCount, toldHead, headCounts, FewTimes, toldEnd, Few, LineAfter, Room, countsOf, refusal, Looked, FrontRead, RequestRead};
 
 // How many times a list has, and the place after it.
 pub enum Times {
@@ -49,6 +49,12 @@ pub enum Request {
     Asked(u64, u64, Counts),
 }
 
+// The answer, and where the lines of records stand; no lines after a refusal.
+pub struct Found {
+    pub answer: Request,
+    pub lines: Lines,
+}
+
 // One to 16 times joined by ";" into out.
 fn read_times(s: &[u8], from: usize, out: &mut [u64]) -> Times
     requires { ⌜ 16 ≤ length (now out) ⌝ }
@@ -58,10 +64,10 @@ fn read_times(s: &[u8], from: usize, out: &mut [u64]) -> Times
     let mut at = from;
     let mut k: usize = 0;
     while k < 16 {
-        let Num::Num(t, n) = scan::read_time(s, at) else {
+        let Time::Time(t, n) = scan::read_time(s, at) else {
             return Times::NotTimes;
         };
-        out[k] = t;
+        out[k] = t.0;
         k += 1;
         let Place::At(m) = scan::read_mark(s, n, 59) else {
             return Times::Times(k, n);
@@ -184,75 +190,63 @@ fn read_end(s: &[u8], at: usize, n: u64) -> End
 
 // The number of the line after the sections.
 fn line_after(x: Lines) -> u64
-    requires { ⌜ Few (x .old) (x .new) (x .out) (x .pending) ⌝ }
-    ensures { λ r. ⌜ LineAfter (x .old) (x .new) (x .out) (x .pending) r ⌝ }
+    requires { ⌜ Few (x .old .count) (x .new .count) (x .out .count) (x .pending .count) ⌝ }
+    ensures { λ r. ⌜ LineAfter (x .old .count) (x .new .count) (x .out .count) (x .pending .count) r ⌝ }
 {
-    6 + x.old as u64 + x.new as u64 + x.out as u64 + x.pending as u64
+    6 + x.old.count as u64 + x.new.count as u64 + x.out.count as u64 + x.pending.count as u64
 }
 
-// The request into the front of the columns.
-fn read_whole(
-    s: &[u8],
-    lower: &mut [u64],
-    upper: &mut [u64],
-    held: &mut [u64],
-    oldKeys: &mut [u64],
-    oldValues: &mut [u64],
-    oldTimes: &mut [u64],
-    oldDiffs: &mut [i64],
-    newKeys: &mut [u64],
-    newValues: &mut [u64],
-    newTimes: &mut [u64],
-    newDiffs: &mut [i64],
-    outKeys: &mut [u64],
-    outValues: &mut [u64],
-    outTimes: &mut [u64],
-    outDiffs: &mut [i64],
-    pendingKeys: &mut [u64],
-    pendingTimes: &mut [u64],
-) -> Request
-    requires { ⌜ Room (now lower) (now upper) (now held) (now oldKeys) (now oldValues) (now oldTimes) (now oldDiffs) (now newKeys) (now newValues) (now newTimes) (now newDiffs) (now outKeys) (now outValues) (now outTimes) (now outDiffs) (now pendingKeys) (now pendingTimes) ⌝ }
-    ensures { λ r. ⌜ WholeRead (parse (now (s .entry))) (now (lower .exit)) (now (upper .exit)) (now (held .exit)) (now (oldKeys .exit)) (now (oldValues .exit)) (now (oldTimes .exit)) (now (oldDiffs .exit)) (now (newKeys .exit)) (now (newValues .exit)) (now (newTimes .exit)) (now (newDiffs .exit)) (now (outKeys .exit)) (now (outValues .exit)) (now (outTimes .exit)) (now (outDiffs .exit)) (now (pendingKeys .exit)) (now (pendingTimes .exit)) r ⌝ }
+fn refused(n: u64) -> Found
+    ensures { λ r. ⌜ r ≡ refusal n ⌝ }
+{
+    let none = Section {
+        first: 0,
+        count: 0,
+        next: 0,
+    };
+    Found {
+        answer: Request::Bad(n),
+        lines: Lines {
+            old: none,
+            new: none,
+            out: none,
+            pending: none,
+        },
+    }
+}
+
+// The whole request: the three lists into the front of their slices, and where the other lines stand.
+fn look(s: &[u8], lower: &mut [u64], upper: &mut [u64], held: &mut [u64]) -> Found
+    requires { ⌜ 16 ≤ length (now lower) ⌝ }
+    requires { ⌜ 16 ≤ length (now upper) ⌝ }
+    requires { ⌜ 16 ≤ length (now held) ⌝ }
+    ensures { λ r. ⌜ Looked (now (s .entry)) (parse (now (s .entry))) (now (lower .exit)) (now (upper .exit)) (now (held .exit)) r ⌝ }
 {
     if 65536 < s.len() {
-        return Request::Bad(0);
+        return refused(0);
     }
     match read_head(s, lower, upper, held) {
-        Head::BadHead(n) => Request::Bad(n),
+        Head::BadHead(n) => refused(n),
         Head::Head(m, w, l, u, h, at) => {
-            let x = records::read_sections(
-                s,
-                at,
-                oldKeys,
-                oldValues,
-                oldTimes,
-                oldDiffs,
-                newKeys,
-                newValues,
-                newTimes,
-                newDiffs,
-                outKeys,
-                outValues,
-                outTimes,
-                outDiffs,
-                pendingKeys,
-                pendingTimes,
-            );
-            match read_end(s, x.next, line_after(x)) {
-                End::BadEnd(n) => Request::Bad(n),
-                End::End => Request::Asked(
-                    m,
-                    w,
-                    Counts {
-                        lower: l,
-                        upper: u,
-                        held: h,
-                        old: x.old,
-                        new: x.new,
-                        out: x.out,
-                        pending: x.pending,
-                    },
-                ),
+            let x = records::find_sections(s, at);
+            match read_end(s, x.pending.next, line_after(x)) {
+                End::BadEnd(n) => refused(n),
+                End::End => Found {
+                    answer: Request::Asked(
+                        m,
+                        w,
+                        Counts {
+                            lower: l,
+                            upper: u,
+                            held: h,
+                            old: x.old.count,
+                            new: x.new.count,
+                            out: x.out.count,
+                            pending: x.pending.count,
+                        },
+                    ),
+                    lines: x,
+                },
             }
         }
     }
@@ -276,85 +270,20 @@ fn entries(r: Request) -> Counts
     }
 }
 
-// Zeros from a place on.
-fn clear_from(s: &mut [u64], from: usize)
-    ensures { λ r. ⌜ now (s .exit) ≡ padded 0 (length (now (s .entry))) (take from (now (s .entry))) ⌝ }
+// The same, with zeros past the lists, and nothing but zeros after a refusal.
+fn read_front(s: &[u8], lower: &mut [u64], upper: &mut [u64], held: &mut [u64]) -> Found
+    requires { ⌜ 16 ≤ length (now lower) ⌝ }
+    requires { ⌜ 16 ≤ length (now upper) ⌝ }
+    requires { ⌜ 16 ≤ length (now held) ⌝ }
+    ensures { λ r. ⌜ FrontRead (now (s .entry)) (parse (now (s .entry))) (now (lower .entry)) (now (upper .entry)) (now (held .entry)) (now (lower .exit)) (now (upper .exit)) (now (held .exit)) r ⌝ }
 {
-    let mut i = from;
-    while i < s.len() {
-        s[i] = 0;
-        i += 1;
-    }
-}
-
-fn clear_diffs_from(s: &mut [i64], from: usize)
-    ensures { λ r. ⌜ now (s .exit) ≡ padded (pos 0) (length (now (s .entry))) (take from (now (s .entry))) ⌝ }
-{
-    let mut i = from;
-    while i < s.len() {
-        s[i] = 0;
-        i += 1;
-    }
-}
-
-fn clear_run_from(
-    n: usize,
-    keys: &mut [u64],
-    values: &mut [u64],
-    times: &mut [u64],
-    diffs: &mut [i64],
-)
-    ensures { λ r. ⌜ RunCleared n (now (keys .entry)) (now (values .entry)) (now (times .entry)) (now (diffs .entry)) (now (keys .exit)) (now (values .exit)) (now (times .exit)) (now (diffs .exit)) ⌝ }
-{
-    clear_from(keys, n);
-    clear_from(values, n);
-    clear_from(times, n);
-    clear_diffs_from(diffs, n);
-}
-
-fn clear_lists_from(n: Counts, lower: &mut [u64], upper: &mut [u64], held: &mut [u64])
-    ensures { λ r. ⌜ ListsCleared n (now (lower .entry)) (now (upper .entry)) (now (held .entry)) (now (lower .exit)) (now (upper .exit)) (now (held .exit)) ⌝ }
-{
-    clear_from(lower, n.lower);
-    clear_from(upper, n.upper);
-    clear_from(held, n.held);
-}
-
-fn clear_pairs_from(n: usize, keys: &mut [u64], times: &mut [u64])
-    ensures { λ r. ⌜ PairsCleared n (now (keys .entry)) (now (times .entry)) (now (keys .exit)) (now (times .exit)) ⌝ }
-{
-    clear_from(keys, n);
-    clear_from(times, n);
-}
-
-// Zeros past the counts.
-fn clear_rest(
-    n: Counts,
-    lower: &mut [u64],
-    upper: &mut [u64],
-    held: &mut [u64],
-    oldKeys: &mut [u64],
-    oldValues: &mut [u64],
-    oldTimes: &mut [u64],
-    oldDiffs: &mut [i64],
-    newKeys: &mut [u64],
-    newValues: &mut [u64],
-    newTimes: &mut [u64],
-    newDiffs: &mut [i64],
-    outKeys: &mut [u64],
-    outValues: &mut [u64],
-    outTimes: &mut [u64],
-    outDiffs: &mut [i64],
-    pendingKeys: &mut [u64],
-    pendingTimes: &mut [u64],
-)
-    ensures { λ r. ⌜ Cleared n (now (lower .entry)) (now (upper .entry)) (now (held .entry)) (now (oldKeys .entry)) (now (oldValues .entry)) (now (oldTimes .entry)) (now (oldDiffs .entry)) (now (newKeys .entry)) (now (newValues .entry)) (now (newTimes .entry)) (now (newDiffs .entry)) (now (outKeys .entry)) (now (outValues .entry)) (now (outTimes .entry)) (now (outDiffs .entry)) (now (pendingKeys .entry)) (now (pendingTimes .entry)) (now (lower .exit)) (now (upper .exit)) (now (held .exit)) (now (oldKeys .exit)) (now (oldValues .exit)) (now (oldTimes .exit)) (now (oldDiffs .exit)) (now (newKeys .exit)) (now (newValues .exit)) (now (newTimes .exit)) (now (newDiffs .exit)) (now (outKeys .exit)) (now (outValues .exit)) (now (outTimes .exit)) (now (outDiffs .exit)) (now (pendingKeys .exit)) (now (pendingTimes .exit)) ⌝ }
-{
-    clear_lists_from(n, lower, upper, held);
-    clear_run_from(n.old, oldKeys, oldValues, oldTimes, oldDiffs);
-    clear_run_from(n.new, newKeys, newValues, newTimes, newDiffs);
-    clear_run_from(n.out, outKeys, outValues, outTimes, outDiffs);
-    clear_pairs_from(n.pending, pendingKeys, pendingTimes);
+    let x = look(s, lower, upper, held);
+    let r = x.answer;
+    let n = entries(r);
+    slices::clear_from(lower, n.lower);
+    slices::clear_from(upper, n.upper);
+    slices::clear_from(held, n.held);
+    x
 }
 
 // The request into the columns, which are zero past it, and all zero after a refusal.
@@ -381,45 +310,36 @@ pub fn read_request(
     requires { ⌜ Room (now lower) (now upper) (now held) (now oldKeys) (now oldValues) (now oldTimes) (now oldDiffs) (now newKeys) (now newValues) (now newTimes) (now newDiffs) (now outKeys) (now outValues) (now outTimes) (now outDiffs) (now pendingKeys) (now pendingTimes) ⌝ }
     ensures { λ r. ⌜ RequestRead (parse (now (s .entry))) (now (lower .entry)) (now (upper .entry)) (now (held .entry)) (now (oldKeys .entry)) (now (oldValues .entry)) (now (oldTimes .entry)) (now (oldDiffs .entry)) (now (newKeys .entry)) (now (newValues .entry)) (now (newTimes .entry)) (now (newDiffs .entry)) (now (outKeys .entry)) (now (outValues .entry)) (now (outTimes .entry)) (now (outDiffs .entry)) (now (pendingKeys .entry)) (now (pendingTimes .entry)) (now (lower .exit)) (now (upper .exit)) (now (held .exit)) (now (oldKeys .exit)) (now (oldValues .exit)) (now (oldTimes .exit)) (now (oldDiffs .exit)) (now (newKeys .exit)) (now (newValues .exit)) (now (newTimes .exit)) (now (newDiffs .exit)) (now (outKeys .exit)) (now (outValues .exit)) (now (outTimes .exit)) (now (outDiffs .exit)) (now (pendingKeys .exit)) (now (pendingTimes .exit)) r ⌝ }
 {
-    let r = read_whole(
+    let x = read_front(s, lower, upper, held);
+    let r = x.answer;
+    let lines = x.lines;
+    records::store_rows(
         s,
-        lower,
-        upper,
-        held,
+        lines.old,
+        b"old=",
         oldKeys,
         oldValues,
         oldTimes,
         oldDiffs,
+    );
+    records::store_rows(
+        s,
+        lines.new,
+        b"new=",
         newKeys,
         newValues,
         newTimes,
         newDiffs,
+    );
+    records::store_rows(
+        s,
+        lines.out,
+        b"out=",
         outKeys,
         outValues,
         outTimes,
         outDiffs,
-        pendingKeys,
-        pendingTimes,
     );
-    clear_rest(
-        entries(r),
-        lower,
-        upper,
-        held,
-        oldKeys,
-        oldValues,
-        oldTimes,
-        oldDiffs,
-        newKeys,
-        newValues,
-        newTimes,
-        newDiffs,
-        outKeys,
-        outValues,
-        outTimes,
-        outDiffs,
-        pendingKeys,
-        pendingTimes,
-    );
+    records::store_pairs(s, lines.pending, b"pend=", pendingKeys, pendingTimes);
     r
 }

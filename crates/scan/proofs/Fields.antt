@@ -1,8 +1,8 @@
 -- Readers put together, case by case: `none` or what was read, in each place where the code returns.
 --
--- no-num, is-num, no-place, is-place: what an answer tells, once its case is known
+-- no-num, is-num, no-time, is-time, no-place, is-place: what an answer tells, once its case is known
 -- ending-none, -cut, -all; time-none, -cut, -all: a reader and what follows it. minus-, plus-: the cases of a diff
--- number-small, ending-small: a number is at most what it was asked to be. back: a diff is read back from its bits
+-- number-small, ending-small: a number is at most what it was asked to be. kept-z: a diff is read back from its bits
 use Prim.Native.Nat.{ℕ, zero, suc, _+_, _-_, _*_, _≤_, _<_, _^_}
 use native.Mathlib.Numerals.{add-one}
 use native.Mathlib.Omega.{arith}
@@ -14,10 +14,10 @@ use lib.IntN.{ℤ, pos, negsuc, _-ℤ_}
 use lib.Signed.{mag}
 use mir.Syntax.{w64}
 use mir.Val.{toZ, ofZ}
-use mir.Facts.{toZ-ofZ}
 use lib.ListN.{length, drop, getD}
 use borrow.Author.Tests.{leb-true}
 use Rattle.grid.proofs.Tests.{by-test}
+use Rattle.grid.proofs.Signed.{back}
 use Rattle.grid.specs.Lists.{front}
 use Rattle.form.proofs.Back.{signed-plus}
 use Rattle.form.specs.Read.{Reader, then, word, ending, digit, plain, value, upTo, number, max32, max63, negated, signed, time}
@@ -25,9 +25,12 @@ use Rattle.grid.specs.Times.{at as pack}
 use Rattle.scan.proofs.Numbers.{drop-is, inside, head-at}
 use Rattle.scan.specs.declared.Num.{Num}
 use Rattle.scan.specs.declared.Num.the-variants.{NotNum, Num as IsNum}
+use Rattle.times.specs.declared.time.PackedTime.{PackedTime}
+use Rattle.scan.specs.declared.Time.{Time}
+use Rattle.scan.specs.declared.Time.the-variants.{NotTime, Time as IsTime}
 use Rattle.scan.specs.declared.Place.{Place}
 use Rattle.scan.specs.declared.Place.the-variants.{Nowhere, At}
-use Rattle.scan.specs.Told.{toldPlace, toldNum}
+use Rattle.scan.specs.Told.{toldPlace, toldNum, toldTime}
 
 -- what an answer tells, once its case is known
 module _ (s : List ℕ) where
@@ -36,6 +39,12 @@ module _ (s : List ℕ) where
 
   pub is-num : (r : Num) {v n : ℕ} {a : Option (ℕ × List ℕ)} → toldNum s r ≡ a → r ≡ IsNum v n → a ≡ some (v, drop n s)
   is-num r e q = sym e ∙ ap (toldNum s) q
+
+  pub no-time : (r : Time) {a : Option (ℕ × List ℕ)} → toldTime s r ≡ a → r ≡ NotTime → a ≡ none
+  no-time r e q = sym e ∙ ap (toldTime s) q
+
+  pub is-time : (r : Time) {t : PackedTime} {n : ℕ} {a : Option (ℕ × List ℕ)} → toldTime s r ≡ a → r ≡ IsTime t n → a ≡ some (t .0, drop n s)
+  is-time r e q = sym e ∙ ap (toldTime s) q
 
   pub no-place : (r : Place) {a : Option (List ℕ)} → toldPlace s r ≡ a → r ≡ Nowhere → a ≡ none
   no-place r e q = sym e ∙ ap (toldPlace s) q
@@ -106,9 +115,6 @@ minus-one zero = refl
 minus-one (suc m) = ap negsuc (omega arith)
 
 -- a diff that goes through a local is read back from its bits
-pub back : {z : ℤ} → mag z < 2 ^ 63 → toZ w64 (ofZ w64 z) ≡ z
-back h = toZ-ofZ (record { sfits = h })
-
 pub kept-z : (z : ℤ) {x : ℤ} → z ≡ x → mag x < 2 ^ 63 → toZ w64 (ofZ w64 z) ≡ x
 kept-z z e h = ap (λ y. toZ w64 (ofZ w64 y)) e ∙ back h
 

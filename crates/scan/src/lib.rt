@@ -1,4 +1,5 @@
 // Reading what lines are made of, at a place of a slice of bytes: words, numbers, times and diffs. Nothing is written.
+use times::PackedTime;
 ghost use Prim.Native.Nat.{_≤_, _<_, _-_, _^_};
 ghost use mathlib.Core.List.{[], _∷_};
 ghost use mathlib.Core.Path.{_≡_};
@@ -6,7 +7,7 @@ ghost use lib.IntN.{negsuc, pos};
 ghost use lib.ListN.{getD, drop};
 ghost use Rattle.grid.specs.Lists.{front};
 ghost use Rattle.form.specs.Read.{word, digit, plain, upTo, number, ending, time, signed};
-ghost use Rattle.scan.specs.Told.{toldPlace, toldNum, toldDiff};
+ghost use Rattle.scan.specs.Told.{toldPlace, toldNum, toldTime, toldDiff};
 
 // What was looked for is not there, or the place after it.
 pub enum Place {
@@ -18,6 +19,12 @@ pub enum Place {
 pub enum Num {
     NotNum,
     Num(u64, usize),
+}
+
+// No time, or a time and the place after it.
+pub enum Time {
+    NotTime,
+    Time(PackedTime, usize),
 }
 
 // No diff, or a diff and the place after it.
@@ -33,7 +40,7 @@ fn wide(b: u8) -> u64
 }
 
 // The byte at a place, 0 past the end.
-pub fn byte_at(s: &[u8], at: usize) -> u64
+fn byte_at(s: &[u8], at: usize) -> u64
     ensures { λ r. ⌜ r ≡ getD (now (s .entry)) at 0 ⌝ }
 {
     if at < s.len() {
@@ -42,7 +49,7 @@ pub fn byte_at(s: &[u8], at: usize) -> u64
     0
 }
 
-pub fn is_digit(b: u64) -> bool
+fn is_digit(b: u64) -> bool
     ensures { λ r. ⌜ r ≡ digit b ⌝ }
 {
     if b < 48 {
@@ -52,7 +59,7 @@ pub fn is_digit(b: u64) -> bool
 }
 
 // Whether some digit stands at a place, and no 0 before another digit.
-pub fn is_plain(s: &[u8], at: usize) -> bool
+fn is_plain(s: &[u8], at: usize) -> bool
     ensures { λ r. ⌜ r ≡ plain (front digit (drop at (now (s .entry)))) ⌝ }
 {
     let b = byte_at(s, at);
@@ -146,29 +153,29 @@ pub fn number_and(s: &[u8], at: usize, most: u64, b: u8) -> Num
     Num::Num(n, m)
 }
 
-pub fn read_time(s: &[u8], at: usize) -> Num
-    ensures { λ r. ⌜ toldNum (now (s .entry)) r ≡ time (drop at (now (s .entry))) ⌝ }
+pub fn read_time(s: &[u8], at: usize) -> Time
+    ensures { λ r. ⌜ toldTime (now (s .entry)) r ≡ time (drop at (now (s .entry))) ⌝ }
 {
     let Num::Num(a, k) = number_and(s, at, 4294967295, 58) else {
-        return Num::NotNum;
+        return Time::NotTime;
     };
     let Num::Num(b, m) = read_number(s, k, 4294967295) else {
-        return Num::NotNum;
+        return Time::NotTime;
     };
-    Num::Num(a * 4294967296 + b, m)
+    Time::Time(PackedTime(a * 4294967296 + b), m)
 }
 
 // A time and the one byte b.
-pub fn time_and(s: &[u8], at: usize, b: u8) -> Num
-    ensures { λ r. ⌜ toldNum (now (s .entry)) r ≡ ending (b ∷ []) time (drop at (now (s .entry))) ⌝ }
+pub fn time_and(s: &[u8], at: usize, b: u8) -> Time
+    ensures { λ r. ⌜ toldTime (now (s .entry)) r ≡ ending (b ∷ []) time (drop at (now (s .entry))) ⌝ }
 {
-    let Num::Num(n, k) = read_time(s, at) else {
-        return Num::NotNum;
+    let Time::Time(t, k) = read_time(s, at) else {
+        return Time::NotTime;
     };
     let Place::At(m) = read_mark(s, k, b) else {
-        return Num::NotNum;
+        return Time::NotTime;
     };
-    Num::Num(n, m)
+    Time::Time(t, m)
 }
 
 fn negative(n: u64) -> i64

@@ -15,8 +15,9 @@ use borrow.Author.Tests.{ltb-true, ltb-false, leb-true, le-leb, lt-leb}
 use Rattle.grid.specs.Lists.{flat}
 use Rattle.grid.proofs.Tests.{by-test, and-l, and-r}
 use Rattle.form.specs.Text.{ascii}
+use Rattle.form.specs.Read.{theRow}
 use Rattle.form.specs.Show.{decimal, showTime, showList, showRow, showPair, showLine, showFix, showTile, showResults, showAnswer, showBad}
-use Rattle.print.specs.Put.{Put, theRow}
+use Rattle.print.specs.Put.{Put}
 use Rattle.print.proofs.Put.{put-long, Writing, writing-start}
 use Rattle.writing.specs.declared.Results.{Results}
 use Rattle.writing.specs.declared.Text.{Text}

@@ -1,6 +1,6 @@
 -- The answer that stands in the result memory that a call leaves is the call's answer, whatever lies past it.
 --
--- Stands: the parts of an answer have their room in the memory. resultsOf: its status, crossings and counts
+-- resultsOf: the status, crossings and counts of an answer
 -- standing-is: the answer that is written is the one that was laid out
 use Prim.Native.Nat.{ℕ, zero, suc, _+_, _-_, _*_, _≤_, _<_, min}
 use native.Mathlib.Omega.{arith}
@@ -16,6 +16,8 @@ use Rattle.grid.proofs.Lists.{All, nil, cons, head, tail}
 use Rattle.rules.specs.Tiles.{Tile}
 use Rattle.rules.specs.Call.{Fix, Answer}
 use Rattle.rules.specs.Memory.{mostBound, tileSize, tileNumbers, numbers, diffs}
+use Rattle.rules.proofs.Tiles.{Bounded}
+use Rattle.rules.proofs.Memory.{Fits}
 use Rattle.writing.specs.declared.Results.{Results}
 use Rattle.writing.specs.Answered.{places, fixAt, pairAt, boundAt, tileFrom, tileAt, frontierAt, standing}
 
@@ -54,10 +56,6 @@ get-map g (x ∷ xs) zero d e h = refl
 get-map g (x ∷ xs) (suc i) d e h = get-map g xs i d e (omega arith)
 
 -- ---- one tile
-pub record Bounded (t : Tile) : Type 0 where
-  pub lower-few : length (t .lower) ≤ mostBound
-  pub upper-few : length (t .upper) ≤ mostBound
-
 bound-past : (xs ys : List ℕ) (i j : ℕ) → j ≡ length xs + i → boundAt (xs ++ ys) j ≡ boundAt ys i
 unfolding boundAt
 bound-past xs ys i j e = rw (get-past xs ys i j 0 e, drop-past xs ys (i + 1) (j + 1) (omega arith))
@@ -74,7 +72,7 @@ tile-text : (t : Tile) (r : List ℕ) → tileNumbers t ++ r ≡ (length (t .low
 unfolding tileNumbers
 tile-text t r = simp append-assoc refl
 
-tile-long : (t : Tile) → Bounded t → length (tileNumbers t) ≡ 65
+tile-long : (t : Tile) → Bounded mostBound t → length (tileNumbers t) ≡ 65
 unfolding tileNumbers
 tile-long t b =
     let l : length {A = ℕ} (replicate (mostBound - length (t .lower)) 0) ≡ 31 - length (t .lower) = length-replicate (mostBound - length (t .lower)) 0 in
@@ -85,7 +83,7 @@ tile-of : (ns : List ℕ) {l u : List ℕ} {h : ℕ} → boundAt ns 0 ≡ l → 
 unfolding tileFrom
 tile-of ns p q r = λ k. record { lower = p k; upper = q k; held = r k }
 
-tile-here : (t : Tile) (r : List ℕ) → Bounded t → tileFrom (tileNumbers t ++ r) 0 ≡ t
+tile-here : (t : Tile) (r : List ℕ) → Bounded mostBound t → tileFrom (tileNumbers t ++ r) 0 ≡ t
 tile-here t r b = ap (λ l. tileFrom l 0) (tile-text t r) ∙ parts
   where
     L : List ℕ
@@ -95,16 +93,16 @@ tile-here t r b = ap (λ l. tileFrom l 0) (tile-text t r) ∙ parts
     X = length (t .upper) ∷ padded 0 mostBound (t .upper)
 
     long-L : 32 ≡ length L
-    long-L = ap suc (sym (padded-length 0 mostBound (t .lower) (b .lower-few)))
+    long-L = ap suc (sym (padded-length 0 mostBound (t .lower) (b .lower-fits)))
 
     long-X : 32 ≡ length X
-    long-X = ap suc (sym (padded-length 0 mostBound (t .upper) (b .upper-few)))
+    long-X = ap suc (sym (padded-length 0 mostBound (t .upper) (b .upper-fits)))
 
     parts : tileFrom (L ++ (X ++ (t .held ∷ r))) 0 ≡ t
-    parts = tile-of (L ++ (X ++ (t .held ∷ r))) (bound-here (t .lower) (X ++ (t .held ∷ r)) (b .lower-few)) (bound-past L (X ++ (t .held ∷ r)) 0 32 (omega (arith, long-L)) ∙ bound-here (t .upper) (t .held ∷ r) (b .upper-few)) (get-past L (X ++ (t .held ∷ r)) 32 64 0 (omega (arith, long-L)) ∙ get-past X (t .held ∷ r) 0 32 0 (omega (arith, long-X)))
+    parts = tile-of (L ++ (X ++ (t .held ∷ r))) (bound-here (t .lower) (X ++ (t .held ∷ r)) (b .lower-fits)) (bound-past L (X ++ (t .held ∷ r)) 0 32 (omega (arith, long-L)) ∙ bound-here (t .upper) (t .held ∷ r) (b .upper-fits)) (get-past L (X ++ (t .held ∷ r)) 32 64 0 (omega (arith, long-L)) ∙ get-past X (t .held ∷ r) 0 32 0 (omega (arith, long-X)))
 
 -- ---- all tiles
-tile-each : (ts : List Tile) (r : List ℕ) (j : ℕ) (d : Tile) → All Bounded ts → j < length ts → tileFrom (flat tileNumbers ts ++ r) (65 * j) ≡ getD ts j d
+tile-each : (ts : List Tile) (r : List ℕ) (j : ℕ) (d : Tile) → All (Bounded mostBound) ts → j < length ts → tileFrom (flat tileNumbers ts ++ r) (65 * j) ≡ getD ts j d
 tile-each [] r j d a h = absurd (omega arith)
 tile-each (t ∷ ts) r zero d a h = ap (λ l. tileFrom l 0) (append-assoc (tileNumbers t) (flat tileNumbers ts) r) ∙ tile-here t (flat tileNumbers ts ++ r) (head a)
 tile-each (t ∷ ts) r (suc j) d a h =
@@ -113,7 +111,7 @@ tile-each (t ∷ ts) r (suc j) d a h =
     ∙ tile-past (tileNumbers t) (flat tileNumbers ts ++ r) (65 * j) (65 * suc j) (omega arith)
     ∙ tile-each ts r j d (tail a) (omega arith)
 
-tiles-long : {ts : List Tile} → All Bounded ts → length (flat tileNumbers ts) ≡ 65 * length ts
+tiles-long : {ts : List Tile} → All (Bounded mostBound) ts → length (flat tileNumbers ts) ≡ 65 * length ts
 tiles-long nil = refl
 tiles-long (cons {x = t} {xs = ts} b a) =
     let n : length (tileNumbers t) ≡ 65 = tile-long t b in
@@ -121,14 +119,7 @@ tiles-long (cons {x = t} {xs = ts} b a) =
     length-append (tileNumbers t) (flat tileNumbers ts) ∙ omega arith
 
 -- ---- the whole memory
-pub record Stands (a : Answer) : Type 0 where
-  pub tiles-bounded : All Bounded (a .tiles)
-  pub tiles-few : length (a .tiles) ≤ mostTimes
-  pub fixes-few : length (a .fixes) ≤ mostRecords
-  pub pending-few : length (a .pending) ≤ mostRecords
-  pub frontier-few : length (a .frontier) ≤ mostTimes
-
-module _ (a : Answer) (f : Stands a) (z : List ℕ) where
+module _ (a : Answer) (f : Fits a) (z : List ℕ) where
   fixColumn : (Fix → ℕ) → List ℕ
   fixColumn g = padded 0 mostRecords (map g (a .fixes))
 
@@ -144,11 +135,11 @@ module _ (a : Answer) (f : Stands a) (z : List ℕ) where
 
   fix-long : (g : Fix → ℕ) → length (fixColumn g) ≡ 4096
   unfolding fixColumn
-  fix-long g = padded-length 0 mostRecords (map g (a .fixes)) (let e : length (map g (a .fixes)) ≡ length (a .fixes) = length-map (a .fixes) g in let h : length (a .fixes) ≤ 4096 = f .fixes-few in omega arith)
+  fix-long g = padded-length 0 mostRecords (map g (a .fixes)) (let e : length (map g (a .fixes)) ≡ length (a .fixes) = length-map (a .fixes) g in let h : length (a .fixes) ≤ 4096 = f .fixes-fit in omega arith)
 
   pair-long : (g : ℕ × ℕ → ℕ) → length (pairColumn g) ≡ 4096
   unfolding pairColumn
-  pair-long g = padded-length 0 mostRecords (map g (a .pending)) (let e : length (map g (a .pending)) ≡ length (a .pending) = length-map (a .pending) g in let h : length (a .pending) ≤ 4096 = f .pending-few in omega arith)
+  pair-long g = padded-length 0 mostRecords (map g (a .pending)) (let e : length (map g (a .pending)) ≡ length (a .pending) = length-map (a .pending) g in let h : length (a .pending) ≤ 4096 = f .pending-fits in omega arith)
 
   module _ (i : ℕ) (d : Fix) (h : i < length (a .fixes)) where
     fix-entry : (g : Fix → ℕ) (r : List ℕ) → getD (fixColumn g ++ r) i 0 ≡ g (getD (a .fixes) i d)
@@ -228,13 +219,13 @@ module _ (a : Answer) (f : Stands a) (z : List ℕ) where
       ap (λ l. tileFrom l (24576 + 65 * i)) columns-text
       ∙ tile-past columns rest (65 * i) (24576 + 65 * i) (omega (arith, columns-long))
       ∙ ap (λ l. tileFrom l (65 * i)) (append-assoc (flat tileNumbers (a .tiles)) _ _)
-      ∙ tile-each (a .tiles) _ i d (f .tiles-bounded) h
+      ∙ tile-each (a .tiles) _ i d (f .bounds-fit) h
 
   frontier-stands : frontierAt (numbers a ++ z) (length (a .frontier)) ≡ a .frontier
   unfolding frontierAt rest
   frontier-stands =
-      let n : length (flat tileNumbers (a .tiles)) ≡ 65 * length (a .tiles) = tiles-long (f .tiles-bounded) in
-      let m : length (a .tiles) ≤ 16 = f .tiles-few in
+      let n : length (flat tileNumbers (a .tiles)) ≡ 65 * length (a .tiles) = tiles-long (f .bounds-fit) in
+      let m : length (a .tiles) ≤ 16 = f .tiles-fit in
       let t : length (padded 0 (mostTimes * tileSize) (flat tileNumbers (a .tiles))) ≡ 1040 = padded-length 0 1040 (flat tileNumbers (a .tiles)) (omega arith) in
       ap (λ l. take (length (a .frontier)) (drop 25616 l)) columns-text
       ∙ ap (take (length (a .frontier))) (drop-past columns rest 1040 25616 (omega (arith, columns-long)) ∙ drop-past (padded 0 (mostTimes * tileSize) (flat tileNumbers (a .tiles))) (padded 0 mostTimes (a .frontier) ++ z) 0 1040 (omega arith))
@@ -257,7 +248,7 @@ noTile = record { lower = []; upper = []; held = 0 }
 abbrev noFix : Fix
 noFix = record { tile = 0; row = record { key = 0; value = 0; time = 0; diff = pos 0 } }
 
-pub standing-is : (a : Answer) → Stands a → (z : List ℕ) (zd : List ℤ) → standing (resultsOf a) (numbers a ++ z) (diffs a ++ zd) ≡ a
+pub standing-is : (a : Answer) → Fits a → (z : List ℕ) (zd : List ℤ) → standing (resultsOf a) (numbers a ++ z) (diffs a ++ zd) ≡ a
 unfolding standing
 standing-is a f z zd =
     let ts : map (tileAt (numbers a ++ z)) (places 0 (length (a .tiles))) ≡ a .tiles =

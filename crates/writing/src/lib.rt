@@ -1,4 +1,7 @@
 // Writing an answer from the result memory into a slice of bytes.
+use times::KeyHash;
+use times::PackedTime;
+use times::ValueId;
 ghost use Prim.Native.Nat.{_+_, _≤_, min};
 ghost use mathlib.Core.Bool.{true};
 ghost use mathlib.Core.List.{[], _∷_, _++_, map};
@@ -8,8 +11,9 @@ ghost use Rattle.grid.specs.Lists.{flat};
 ghost use Rattle.grid.specs.Records.{mostRecords};
 ghost use Rattle.grid.specs.Frontiers.{mostTimes};
 ghost use Rattle.rules.specs.Memory.{numbersSize};
+ghost use Rattle.form.specs.Read.{theRow};
 ghost use Rattle.form.specs.Show.{decimal, showList, showLine, showFix, showPair, showTile, showResults, showAnswer, showBad};
-ghost use Rattle.print.specs.Put.{Put, theRow};
+ghost use Rattle.print.specs.Put.{Put};
 ghost use Rattle.writing.specs.Answered.{places, fixAt, pairAt, boundAt, tileFrom, tileAt, frontierAt, standing, theFix, Fits, sizesFit, countsFit, memoryFits, told, Written};
 
 // Status, crossings, and how many tiles, corrections, pending entries and frontier times the result memory holds.
@@ -44,8 +48,8 @@ fn put_list_line(out: &mut [u8], at: usize, name: &[u8], ts: &[u64]) -> usize
     print::put_mark(out, b, 10)
 }
 
-fn put_pending_line(out: &mut [u8], at: usize, key: u64, time: u64) -> usize
-    ensures { λ r. ⌜ Put (showLine "pend=" (showPair (key, time))) (now (out .entry)) (now (out .exit)) at r ⌝ }
+fn put_pending_line(out: &mut [u8], at: usize, key: KeyHash, time: PackedTime) -> usize
+    ensures { λ r. ⌜ Put (showLine "pend=" (showPair (key .0, time .0))) (now (out .entry)) (now (out .exit)) at r ⌝ }
 {
     let a = print::put_word(out, at, b"pend=");
     let b = print::put_pair(out, a, key, time);
@@ -56,12 +60,12 @@ fn put_fix_line(
     out: &mut [u8],
     at: usize,
     tile: u64,
-    key: u64,
-    value: u64,
-    time: u64,
+    key: KeyHash,
+    value: ValueId,
+    time: PackedTime,
     diff: i64,
 ) -> usize
-    ensures { λ r. ⌜ Put (showLine "fix=" (showFix (theFix tile (theRow key value time diff)))) (now (out .entry)) (now (out .exit)) at r ⌝ }
+    ensures { λ r. ⌜ Put (showLine "fix=" (showFix (theFix tile (theRow (key .0) (value .0) (time .0) diff)))) (now (out .entry)) (now (out .exit)) at r ⌝ }
 {
     let a = print::put_word(out, at, b"fix=");
     let b = print::put_decimal(out, a, tile);
@@ -98,7 +102,7 @@ fn put_tile(out: &mut [u8], at: usize, numbers: &[u64], from: usize) -> usize
     let b = print::put_mark(out, a, 47);
     let e = put_bound(out, b, numbers, from + 32);
     let f = print::put_mark(out, e, 47);
-    print::put_time(out, f, numbers[from + 64])
+    print::put_time(out, f, PackedTime(numbers[from + 64]))
 }
 
 fn put_tile_line(out: &mut [u8], at: usize, numbers: &[u64], from: usize) -> usize
@@ -137,9 +141,9 @@ fn put_fixes(out: &mut [u8], from: usize, numbers: &[u64], diffs: &[i64], n: usi
             out,
             at,
             numbers[i],
-            numbers[4096 + i],
-            numbers[8192 + i],
-            numbers[12288 + i],
+            KeyHash(numbers[4096 + i]),
+            ValueId(numbers[8192 + i]),
+            PackedTime(numbers[12288 + i]),
             diffs[i],
         );
         i += 1;
@@ -155,7 +159,12 @@ fn put_pending(out: &mut [u8], from: usize, numbers: &[u64], n: usize) -> usize
     let mut at = from;
     let mut i: usize = 0;
     while i < n {
-        at = put_pending_line(out, at, numbers[16384 + i], numbers[20480 + i]);
+        at = put_pending_line(
+            out,
+            at,
+            KeyHash(numbers[16384 + i]),
+            PackedTime(numbers[20480 + i]),
+        );
         i += 1;
     }
     at

@@ -29,7 +29,7 @@ same-length c = search needs
 
 -- src/lib.rt:117:1
 returns : tie.Need-returns
-returns c = put-is (key-value-parts (c .before .before .before .before .before .before .before .before .before .before .before .before .before .before .before .before .before .args .key) (c .before .before .before .before .before .before .before .before .before .before .before .before .before .before .before .before .before .args .value)) (put-append (put-append (put-append (c .before .before .before .before .before .before .before .before .before .before .before .before .before .before .put-decimal .ensures) (c .before .before .before .before .before .before .before .before .before .before .put-mark .ensures)) (c .before .before .before .before .before .before .put-decimal2 .ensures)) (c .before .before .put-mark2 .ensures))
+returns c = put-is (key-value-parts (c .before .before .before .before .before .before .before .before .before .before .before .before .before .before .before .before .before .args .key .0) (c .before .before .before .before .before .before .before .before .before .before .before .before .before .before .before .before .before .args .value .0)) (put-append (put-append (put-append (c .before .before .before .before .before .before .before .before .before .before .before .before .before .before .put-decimal .ensures) (c .before .before .before .before .before .before .before .before .before .before .put-mark .ensures)) (c .before .before .before .before .before .before .put-decimal2 .ensures)) (c .before .before .put-mark2 .ensures))
 
 pub put-key-value-spec : {M : Type 1} → statement M
 put-key-value-spec =

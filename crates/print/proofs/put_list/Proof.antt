@@ -22,8 +22,8 @@ returns : tie.Need-returns
 returns c = put-is (list-none (c .before .before .before .before .before .before .before .args .ts .now) (c .before .before .before .before .if1 .taken)) (c .before .before .put-mark .ensures)
 
 -- src/lib.rt:104:31
-shared-slice-read-put-time : tie.Need-shared-slice-read-put-time
-shared-slice-read-put-time c = search needs
+shared-slice-read-t12 : tie.Need-shared-slice-read-t12
+shared-slice-read-t12 c = search needs
 
 -- src/lib.rt:104:9
 put-time-requires : tie.Need-put-time-requires
@@ -48,7 +48,7 @@ put-list-spec =
     put-mark-requires
     same-length
     returns
-    shared-slice-read-put-time
+    shared-slice-read-t12
     put-time-requires
     put-more-requires
     same-length-2

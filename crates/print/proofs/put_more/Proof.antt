@@ -26,12 +26,12 @@ put-mark-requires : tie.Need-put-mark-requires Inv-loop μ-loop
 put-mark-requires c κs = search needs
 
 -- src/lib.rt:92:31
-mul-put-time : tie.Need-mul-put-time Inv-loop μ-loop
-mul-put-time c = search needs
+mul-t8 : tie.Need-mul-t8 Inv-loop μ-loop
+mul-t8 c = search needs
 
 -- src/lib.rt:92:31
-shared-slice-read-put-time : tie.Need-shared-slice-read-put-time Inv-loop μ-loop
-shared-slice-read-put-time c = search needs
+shared-slice-read-t15 : tie.Need-shared-slice-read-t15 Inv-loop μ-loop
+shared-slice-read-t15 c = search needs
 
 -- src/lib.rt:92:9
 put-time-requires : tie.Need-put-time-requires Inv-loop μ-loop
@@ -65,8 +65,8 @@ put-more-spec =
     μ-loop
     loop-holds
     put-mark-requires
-    mul-put-time
-    shared-slice-read-put-time
+    mul-t8
+    shared-slice-read-t15
     put-time-requires
     add-i
     loop-less

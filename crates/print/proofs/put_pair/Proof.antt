@@ -26,7 +26,7 @@ same-length c = search needs
 
 -- src/lib.rt:108:1
 returns : tie.Need-returns
-returns c = put-is (pair-parts (c .before .before .before .before .before .before .before .before .before .before .before .before .before .args .key) (c .before .before .before .before .before .before .before .before .before .before .before .before .before .args .time)) (put-append (put-append (c .before .before .before .before .before .before .before .before .before .before .put-decimal .ensures) (c .before .before .before .before .before .before .put-mark .ensures)) (c .before .before .put-time .ensures))
+returns c = put-is (pair-parts (c .before .before .before .before .before .before .before .before .before .before .before .before .before .args .key .0) (c .before .before .before .before .before .before .before .before .before .before .before .before .before .args .time .0)) (put-append (put-append (c .before .before .before .before .before .before .before .before .before .before .put-decimal .ensures) (c .before .before .before .before .before .before .put-mark .ensures)) (c .before .before .put-time .ensures))
 
 pub put-pair-spec : {M : Type 1} → statement M
 put-pair-spec =

@@ -1,5 +1,5 @@
 use native.Mathlib.Omega.{arith}
-use Rattle.print.proofs.Numbers.{back}
+use Rattle.grid.proofs.Signed.{back}
 use Rattle.print.proofs.Put.{put-is, put-append, row-parts}
 use borrow.Author.Needs.{needs}
 use Rattle.print.proofs.put_row.Statement.{statement}
@@ -33,7 +33,7 @@ same-length c = search needs
 
 -- src/lib.rt:126:1
 returns : tie.Need-returns
-returns c = put-is (row-parts (c .before .before .before .before .before .before .before .before .before .before .before .before .before .before .before .before .before .args .key) (c .before .before .before .before .before .before .before .before .before .before .before .before .before .before .before .before .before .args .value) (c .before .before .before .before .before .before .before .before .before .before .before .before .before .before .before .before .before .args .time) (back {z = c .before .before .before .before .before .before .before .before .before .before .before .before .before .before .before .before .before .args .diff} (omega arith))) (put-append (put-append (put-append (c .before .before .before .before .before .before .before .before .before .before .before .before .before .before .put-key-value .ensures) (c .before .before .before .before .before .before .before .before .before .before .put-time .ensures)) (c .before .before .before .before .before .before .put-mark .ensures)) (c .before .before .put-signed .ensures))
+returns c = put-is (row-parts (c .before .before .before .before .before .before .before .before .before .before .before .before .before .before .before .before .before .args .key .0) (c .before .before .before .before .before .before .before .before .before .before .before .before .before .before .before .before .before .args .value .0) (c .before .before .before .before .before .before .before .before .before .before .before .before .before .before .before .before .before .args .time .0) (back {z = c .before .before .before .before .before .before .before .before .before .before .before .before .before .before .before .before .before .args .diff} (omega arith))) (put-append (put-append (put-append (c .before .before .before .before .before .before .before .before .before .before .before .before .before .before .put-key-value .ensures) (c .before .before .before .before .before .before .before .before .before .before .put-time .ensures)) (c .before .before .before .before .before .before .put-mark .ensures)) (c .before .before .put-signed .ensures))
 
 pub put-row-spec : {M : Type 1} → statement M
 put-row-spec =

@@ -1,5 +1,5 @@
 use Rattle.reading.proofs.Heads.{Listing, listing-start, listing-none, listing-last, listing-more, listing-full}
-use Rattle.scan.proofs.Fields.{no-num, is-num, no-place, is-place}
+use Rattle.scan.proofs.Fields.{no-place, is-place, no-time, is-time}
 use borrow.Author.Needs.{needs}
 use native.Mathlib.Omega.{arith}
 use Prim.Native.Nat.{_-_}
@@ -38,7 +38,7 @@ same-length c = search needs
 
 -- src/lib.rt:106:13
 returns : tie.Need-returns Inv-loop μ-loop
-returns c = (listing-none (c .before .before .before .before .loop .inv) (omega arith) (no-num (c .before .before .before .before .before .before .before .args .s .now) (c .before .before .read-time .result) (c .before .before .read-time .ensures) (c .enum-told .given .1)), omega arith)
+returns c = (listing-none (c .before .before .before .before .loop .inv) (omega arith) (no-time (c .before .before .before .before .before .before .before .args .s .now) (c .before .before .read-time .result) (c .before .before .read-time .ensures) (c .enum-told .given .1)), omega arith)
 
 -- src/lib.rt:108:9
 mul-out : tie.Need-mul-out Inv-loop μ-loop
@@ -70,7 +70,7 @@ same-length-2 c = search needs
 
 -- src/lib.rt:111:13
 returns-2 : tie.Need-returns-2 Inv-loop μ-loop
-returns-2 c = (listing-last (c .before .before .before .before .before .before .before .before .loop .inv) (omega arith) (c .before .before .before .before .before .before .before .before .before .before .before .pre) (is-num (c .before .before .before .before .before .before .before .before .before .before .before .args .s .now) (c .before .before .before .before .before .before .read-time .result) (c .before .before .before .before .before .before .read-time .ensures) (c .before .before .before .before .t .given .1)) (no-place (c .before .before .before .before .before .before .before .before .before .before .before .args .s .now) (c .before .before .read-mark .result) (c .before .before .read-mark .ensures) (c .enum-told2 .given .1)), omega arith)
+returns-2 c = (listing-last (c .before .before .before .before .before .before .before .before .loop .inv) (omega arith) (c .before .before .before .before .before .before .before .before .before .before .before .pre) (is-time (c .before .before .before .before .before .before .before .before .before .before .before .args .s .now) (c .before .before .before .before .before .before .read-time .result) (c .before .before .before .before .before .before .read-time .ensures) (c .before .before .before .before .t .given .1)) (no-place (c .before .before .before .before .before .before .before .before .before .before .before .args .s .now) (c .before .before .read-mark .result) (c .before .before .read-mark .ensures) (c .enum-told2 .given .1)), omega arith)
 
 -- src/lib.rt:104:5
 loop-less : tie.Need-loop-less Inv-loop μ-loop
@@ -78,7 +78,7 @@ loop-less c = search needs
 
 -- src/lib.rt:104:5
 loop-again : tie.Need-loop-again Inv-loop μ-loop
-loop-again c = listing-more (c .before .before .before .before .before .before .before .before .before .loop .inv) (omega arith) (c .before .before .before .before .before .before .before .before .before .before .before .before .pre) (is-num (c .before .before .before .before .before .before .before .before .before .before .before .before .args .s .now) (c .before .before .before .before .before .before .before .read-time .result) (c .before .before .before .before .before .before .before .read-time .ensures) (c .before .before .before .before .before .t .given .1)) (is-place (c .before .before .before .before .before .before .before .before .before .before .before .before .args .s .now) (c .before .before .before .read-mark .result) (c .before .before .before .read-mark .ensures) (c .before .m .given .1))
+loop-again c = listing-more (c .before .before .before .before .before .before .before .before .before .loop .inv) (omega arith) (c .before .before .before .before .before .before .before .before .before .before .before .before .pre) (is-time (c .before .before .before .before .before .before .before .before .before .before .before .before .args .s .now) (c .before .before .before .before .before .before .before .read-time .result) (c .before .before .before .before .before .before .before .read-time .ensures) (c .before .before .before .before .before .t .given .1)) (is-place (c .before .before .before .before .before .before .before .before .before .before .before .before .args .s .now) (c .before .before .before .read-mark .result) (c .before .before .before .read-mark .ensures) (c .before .m .given .1))
 
 -- src/lib.rt:97:1
 same-length-3 : tie.Need-same-length-3 Inv-loop μ-loop

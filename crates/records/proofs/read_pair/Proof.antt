@@ -1,5 +1,5 @@
 use Rattle.records.proofs.Records.{pair-none, pair-cut, pair-all}
-use Rattle.scan.proofs.Fields.{no-num, is-num}
+use Rattle.scan.proofs.Fields.{no-num, is-num, no-time, is-time}
 use Prim.Native.Nat.{_-_}
 use borrow.Author.Needs.{needs}
 use Rattle.records.proofs.read_pair.Statement.{statement}
@@ -39,11 +39,11 @@ enum-told-2 c = search needs
 
 -- src/lib.rt:56:9
 returns-2 : tie.Need-returns-2
-returns-2 c = pair-cut _ (is-num (c .before .before .before .before .before .before .before .before .args .s .now) (c .before .before .before .before .before .before .number-and .result) (c .before .before .before .before .before .before .number-and .ensures) (c .before .before .before .before .k .given .1)) (no-num (c .before .before .before .before .before .before .before .before .args .s .now) (c .before .before .read-time .result) (c .before .before .read-time .ensures) (c .enum-told2 .given .1))
+returns-2 c = pair-cut _ (is-num (c .before .before .before .before .before .before .before .before .args .s .now) (c .before .before .before .before .before .before .number-and .result) (c .before .before .before .before .before .before .number-and .ensures) (c .before .before .before .before .k .given .1)) (no-time (c .before .before .before .before .before .before .before .before .args .s .now) (c .before .before .read-time .result) (c .before .before .read-time .ensures) (c .enum-told2 .given .1))
 
 -- src/lib.rt:49:1
 returns-3 : tie.Need-returns-3
-returns-3 c = pair-all _ (is-num (c .before .before .before .before .before .before .before .before .before .args .s .now) (c .before .before .before .before .before .before .before .number-and .result) (c .before .before .before .before .before .before .before .number-and .ensures) (c .before .before .before .before .before .k .given .1)) (is-num (c .before .before .before .before .before .before .before .before .before .args .s .now) (c .before .before .before .read-time .result) (c .before .before .before .read-time .ensures) (c .before .t .given .1))
+returns-3 c = pair-all _ (is-num (c .before .before .before .before .before .before .before .before .before .args .s .now) (c .before .before .before .before .before .before .before .number-and .result) (c .before .before .before .before .before .before .before .number-and .ensures) (c .before .before .before .before .before .k .given .1)) (is-time (c .before .before .before .before .before .before .before .before .before .args .s .now) (c .before .before .before .read-time .result) (c .before .before .before .read-time .ensures) (c .before .t .given .1))
 
 pub read-pair-spec : {M : Type 1} → statement M
 read-pair-spec =

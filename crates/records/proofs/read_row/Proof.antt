@@ -1,6 +1,6 @@
 use Rattle.records.proofs.Records.{no-diff, is-diff, row-none, row-cut₁, row-cut₂, row-cut₃, row-all}
-use Rattle.scan.proofs.Fields.{back}
-use Rattle.scan.proofs.Fields.{no-num, is-num}
+use Rattle.grid.proofs.Signed.{back}
+use Rattle.scan.proofs.Fields.{no-num, is-num, no-time, is-time}
 use native.Mathlib.Omega.{arith}
 use Prim.Native.Nat.{_-_}
 use borrow.Author.Needs.{needs}
@@ -58,7 +58,7 @@ enum-told-3 c = search needs
 
 -- src/lib.rt:41:9
 returns-3 : tie.Need-returns-3
-returns-3 c = row-cut₂ _ (is-num (c .before .before .before .before .before .before .before .before .before .before .before .before .args .s .now) (c .before .before .before .before .before .before .before .before .before .before .number-and .result) (c .before .before .before .before .before .before .before .before .before .before .number-and .ensures) (c .before .before .before .before .before .before .before .before .k .given .1)) (is-num (c .before .before .before .before .before .before .before .before .before .before .before .before .args .s .now) (c .before .before .before .before .before .before .number-and2 .result) (c .before .before .before .before .before .before .number-and2 .ensures) (c .before .before .before .before .v .given .1)) (no-num (c .before .before .before .before .before .before .before .before .before .before .before .before .args .s .now) (c .before .before .time-and .result) (c .before .before .time-and .ensures) (c .enum-told3 .given .1))
+returns-3 c = row-cut₂ _ (is-num (c .before .before .before .before .before .before .before .before .before .before .before .before .args .s .now) (c .before .before .before .before .before .before .before .before .before .before .number-and .result) (c .before .before .before .before .before .before .before .before .before .before .number-and .ensures) (c .before .before .before .before .before .before .before .before .k .given .1)) (is-num (c .before .before .before .before .before .before .before .before .before .before .before .before .args .s .now) (c .before .before .before .before .before .before .number-and2 .result) (c .before .before .before .before .before .before .number-and2 .ensures) (c .before .before .before .before .v .given .1)) (no-time (c .before .before .before .before .before .before .before .before .before .before .before .before .args .s .now) (c .before .before .time-and .result) (c .before .before .time-and .ensures) (c .enum-told3 .given .1))
 
 -- src/lib.rt:43:28
 read-signed-requires : tie.Need-read-signed-requires
@@ -74,11 +74,11 @@ enum-told-4 c = search needs
 
 -- src/lib.rt:44:9
 returns-4 : tie.Need-returns-4
-returns-4 c = row-cut₃ _ (is-num (c .before .before .before .before .before .before .before .before .before .before .before .before .before .before .before .before .args .s .now) (c .before .before .before .before .before .before .before .before .before .before .before .before .before .before .number-and .result) (c .before .before .before .before .before .before .before .before .before .before .before .before .before .before .number-and .ensures) (c .before .before .before .before .before .before .before .before .before .before .before .before .k .given .1)) (is-num (c .before .before .before .before .before .before .before .before .before .before .before .before .before .before .before .before .args .s .now) (c .before .before .before .before .before .before .before .before .before .before .number-and2 .result) (c .before .before .before .before .before .before .before .before .before .before .number-and2 .ensures) (c .before .before .before .before .before .before .before .before .v .given .1)) (is-num (c .before .before .before .before .before .before .before .before .before .before .before .before .before .before .before .before .args .s .now) (c .before .before .before .before .before .before .time-and .result) (c .before .before .before .before .before .before .time-and .ensures) (c .before .before .before .before .t .given .1)) (no-diff (c .before .before .before .before .before .before .before .before .before .before .before .before .before .before .before .before .args .s .now) (c .before .before .read-signed .result) (c .before .before .read-signed .ensures) (c .enum-told4 .given .1))
+returns-4 c = row-cut₃ _ (is-num (c .before .before .before .before .before .before .before .before .before .before .before .before .before .before .before .before .args .s .now) (c .before .before .before .before .before .before .before .before .before .before .before .before .before .before .number-and .result) (c .before .before .before .before .before .before .before .before .before .before .before .before .before .before .number-and .ensures) (c .before .before .before .before .before .before .before .before .before .before .before .before .k .given .1)) (is-num (c .before .before .before .before .before .before .before .before .before .before .before .before .before .before .before .before .args .s .now) (c .before .before .before .before .before .before .before .before .before .before .number-and2 .result) (c .before .before .before .before .before .before .before .before .before .before .number-and2 .ensures) (c .before .before .before .before .before .before .before .before .v .given .1)) (is-time (c .before .before .before .before .before .before .before .before .before .before .before .before .before .before .before .before .args .s .now) (c .before .before .before .before .before .before .time-and .result) (c .before .before .before .before .before .before .time-and .ensures) (c .before .before .before .before .t .given .1)) (no-diff (c .before .before .before .before .before .before .before .before .before .before .before .before .before .before .before .before .args .s .now) (c .before .before .read-signed .result) (c .before .before .read-signed .ensures) (c .enum-told4 .given .1))
 
 -- src/lib.rt:31:1
 returns-5 : tie.Need-returns-5
-returns-5 c = row-all _ (is-num (c .before .before .before .before .before .before .before .before .before .before .before .before .before .before .before .before .before .args .s .now) (c .before .before .before .before .before .before .before .before .before .before .before .before .before .before .before .number-and .result) (c .before .before .before .before .before .before .before .before .before .before .before .before .before .before .before .number-and .ensures) (c .before .before .before .before .before .before .before .before .before .before .before .before .before .k .given .1)) (is-num (c .before .before .before .before .before .before .before .before .before .before .before .before .before .before .before .before .before .args .s .now) (c .before .before .before .before .before .before .before .before .before .before .before .number-and2 .result) (c .before .before .before .before .before .before .before .before .before .before .before .number-and2 .ensures) (c .before .before .before .before .before .before .before .before .before .v .given .1)) (is-num (c .before .before .before .before .before .before .before .before .before .before .before .before .before .before .before .before .before .args .s .now) (c .before .before .before .before .before .before .before .time-and .result) (c .before .before .before .before .before .before .before .time-and .ensures) (c .before .before .before .before .before .t .given .1)) (is-diff (c .before .before .before .before .before .before .before .before .before .before .before .before .before .before .before .before .before .args .s .now) (c .before .before .before .read-signed .result) (c .before .before .before .read-signed .ensures) (c .before .d .given .1)) (back {z = c .before .d .given .0 .0} (omega arith))
+returns-5 c = row-all _ (is-num (c .before .before .before .before .before .before .before .before .before .before .before .before .before .before .before .before .before .args .s .now) (c .before .before .before .before .before .before .before .before .before .before .before .before .before .before .before .number-and .result) (c .before .before .before .before .before .before .before .before .before .before .before .before .before .before .before .number-and .ensures) (c .before .before .before .before .before .before .before .before .before .before .before .before .before .k .given .1)) (is-num (c .before .before .before .before .before .before .before .before .before .before .before .before .before .before .before .before .before .args .s .now) (c .before .before .before .before .before .before .before .before .before .before .before .number-and2 .result) (c .before .before .before .before .before .before .before .before .before .before .before .number-and2 .ensures) (c .before .before .before .before .before .before .before .before .before .v .given .1)) (is-time (c .before .before .before .before .before .before .before .before .before .before .before .before .before .before .before .before .before .args .s .now) (c .before .before .before .before .before .before .before .time-and .result) (c .before .before .before .before .before .before .before .time-and .ensures) (c .before .before .before .before .before .t .given .1)) (is-diff (c .before .before .before .before .before .before .before .before .before .before .before .before .before .before .before .before .before .args .s .now) (c .before .before .before .read-signed .result) (c .before .before .before .read-signed .ensures) (c .before .d .given .1)) (back {z = c .before .d .given .0 .0} (omega arith))
 
 pub read-row-spec : {M : Type 1} → statement M
 read-row-spec =

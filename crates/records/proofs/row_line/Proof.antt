@@ -1,6 +1,6 @@
 use Rattle.records.proofs.Records.{no-row, is-row, line-none, line-bad, line-open, line-row}
 use Rattle.scan.proofs.Fields.{no-place, is-place}
-use Rattle.scan.proofs.Fields.{back}
+use Rattle.grid.proofs.Signed.{back}
 use native.Mathlib.Omega.{arith}
 use Prim.Native.Nat.{_-_}
 use borrow.Author.Needs.{needs}

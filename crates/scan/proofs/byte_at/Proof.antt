@@ -1,5 +1,4 @@
 use lib.ListN.{List·getD-eq-default}
-use mathlib.Core.List.{List}
 use Prim.Native.Nat.{_-_}
 use mathlib.Core.Path.{sym}
 use borrow.Author.Needs.{needs}

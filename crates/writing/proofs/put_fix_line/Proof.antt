@@ -1,6 +1,6 @@
 use native.Mathlib.Omega.{arith}
 use Rattle.writing.proofs.Lines.{fix-parts}
-use Rattle.print.proofs.Numbers.{back}
+use Rattle.grid.proofs.Signed.{back}
 use Rattle.print.proofs.Put.{put-is, put-append}
 use borrow.Author.Needs.{needs}
 use Rattle.writing.proofs.put_fix_line.Statement.{statement}
@@ -42,7 +42,7 @@ same-length c = search needs
 
 -- src/lib.rt:55:1
 returns : tie.Need-returns
-returns c = put-is (fix-parts (c .before .before .before .before .before .before .before .before .before .before .before .before .before .before .before .before .before .before .before .before .before .before .args .tile) (c .before .before .before .before .before .before .before .before .before .before .before .before .before .before .before .before .before .before .before .before .before .before .args .key) (c .before .before .before .before .before .before .before .before .before .before .before .before .before .before .before .before .before .before .before .before .before .before .args .value) (c .before .before .before .before .before .before .before .before .before .before .before .before .before .before .before .before .before .before .before .before .before .before .args .time) (back {z = c .before .before .before .before .before .before .before .before .before .before .before .before .before .before .before .before .before .before .before .before .before .before .args .diff} (omega arith))) (put-append (put-append (put-append (put-append (c .before .before .before .before .before .before .before .before .before .before .before .before .before .before .before .before .before .before .put-word .ensures) (c .before .before .before .before .before .before .before .before .before .before .before .before .before .before .put-decimal .ensures)) (c .before .before .before .before .before .before .before .before .before .before .put-mark .ensures)) (c .before .before .before .before .before .before .put-row .ensures)) (c .before .before .put-mark2 .ensures))
+returns c = put-is (fix-parts (c .before .before .before .before .before .before .before .before .before .before .before .before .before .before .before .before .before .before .before .before .before .before .args .tile) (c .before .before .before .before .before .before .before .before .before .before .before .before .before .before .before .before .before .before .before .before .before .before .args .key .0) (c .before .before .before .before .before .before .before .before .before .before .before .before .before .before .before .before .before .before .before .before .before .before .args .value .0) (c .before .before .before .before .before .before .before .before .before .before .before .before .before .before .before .before .before .before .before .before .before .before .args .time .0) (back {z = c .before .before .before .before .before .before .before .before .before .before .before .before .before .before .before .before .before .before .before .before .before .before .args .diff} (omega arith))) (put-append (put-append (put-append (put-append (c .before .before .before .before .before .before .before .before .before .before .before .before .before .before .before .before .before .before .put-word .ensures) (c .before .before .before .before .before .before .before .before .before .before .before .before .before .before .put-decimal .ensures)) (c .before .before .before .before .before .before .before .before .before .before .put-mark .ensures)) (c .before .before .before .before .before .before .put-row .ensures)) (c .before .before .put-mark2 .ensures))
 
 pub put-fix-line-spec : {M : Type 1} → statement M
 put-fix-line-spec =

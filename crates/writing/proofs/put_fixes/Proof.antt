@@ -1,6 +1,6 @@
 use lib.ListN.{getD}
 use lib.IntN.{pos}
-use Rattle.print.proofs.Numbers.{back}
+use Rattle.grid.proofs.Signed.{back}
 use Prim.Native.Nat.{_-_}
 use native.Mathlib.Omega.{arith}
 use borrow.Author.Needs.{needs}
@@ -35,44 +35,44 @@ shared-slice-read-put-fix-line : tie.Need-shared-slice-read-put-fix-line Inv-loo
 shared-slice-read-put-fix-line c = search needs
 
 -- src/lib.rt:128:56
-add-put-fix-line : tie.Need-add-put-fix-line Inv-loop μ-loop
-add-put-fix-line c = search needs
+add-t14 : tie.Need-add-t14 Inv-loop μ-loop
+add-t14 c = search needs
 
 -- src/lib.rt:128:48
-mul-put-fix-line-2 : tie.Need-mul-put-fix-line-2 Inv-loop μ-loop
-mul-put-fix-line-2 c = search needs
+mul-t15 : tie.Need-mul-t15 Inv-loop μ-loop
+mul-t15 c = search needs
 
 -- src/lib.rt:128:48
-shared-slice-read-put-fix-line-2 : tie.Need-shared-slice-read-put-fix-line-2 Inv-loop μ-loop
-shared-slice-read-put-fix-line-2 c = search needs
+shared-slice-read-t17 : tie.Need-shared-slice-read-t17 Inv-loop μ-loop
+shared-slice-read-t17 c = search needs
 
 -- src/lib.rt:128:75
-add-put-fix-line-2 : tie.Need-add-put-fix-line-2 Inv-loop μ-loop
-add-put-fix-line-2 c = search needs
+add-t19 : tie.Need-add-t19 Inv-loop μ-loop
+add-t19 c = search needs
 
 -- src/lib.rt:128:67
-mul-put-fix-line-3 : tie.Need-mul-put-fix-line-3 Inv-loop μ-loop
-mul-put-fix-line-3 c = search needs
+mul-t20 : tie.Need-mul-t20 Inv-loop μ-loop
+mul-t20 c = search needs
 
 -- src/lib.rt:128:67
-shared-slice-read-put-fix-line-3 : tie.Need-shared-slice-read-put-fix-line-3 Inv-loop μ-loop
-shared-slice-read-put-fix-line-3 c = search needs
+shared-slice-read-t22 : tie.Need-shared-slice-read-t22 Inv-loop μ-loop
+shared-slice-read-t22 c = search needs
 
 -- src/lib.rt:128:94
-add-put-fix-line-3 : tie.Need-add-put-fix-line-3 Inv-loop μ-loop
-add-put-fix-line-3 c = search needs
+add-t24 : tie.Need-add-t24 Inv-loop μ-loop
+add-t24 c = search needs
 
 -- src/lib.rt:128:86
-mul-put-fix-line-4 : tie.Need-mul-put-fix-line-4 Inv-loop μ-loop
-mul-put-fix-line-4 c = search needs
+mul-t25 : tie.Need-mul-t25 Inv-loop μ-loop
+mul-t25 c = search needs
 
 -- src/lib.rt:128:86
-shared-slice-read-put-fix-line-4 : tie.Need-shared-slice-read-put-fix-line-4 Inv-loop μ-loop
-shared-slice-read-put-fix-line-4 c = search needs
+shared-slice-read-t27 : tie.Need-shared-slice-read-t27 Inv-loop μ-loop
+shared-slice-read-t27 c = search needs
 
 -- src/lib.rt:128:106
-mul-put-fix-line-5 : tie.Need-mul-put-fix-line-5 Inv-loop μ-loop
-mul-put-fix-line-5 c = search needs
+mul-put-fix-line-2 : tie.Need-mul-put-fix-line-2 Inv-loop μ-loop
+mul-put-fix-line-2 c = search needs
 
 -- src/lib.rt:128:106
 shared-slice-copy-out-put-fix-line : tie.Need-shared-slice-copy-out-put-fix-line Inv-loop μ-loop
@@ -111,16 +111,16 @@ put-fixes-spec =
     loop-holds
     mul-put-fix-line
     shared-slice-read-put-fix-line
-    add-put-fix-line
+    add-t14
+    mul-t15
+    shared-slice-read-t17
+    add-t19
+    mul-t20
+    shared-slice-read-t22
+    add-t24
+    mul-t25
+    shared-slice-read-t27
     mul-put-fix-line-2
-    shared-slice-read-put-fix-line-2
-    add-put-fix-line-2
-    mul-put-fix-line-3
-    shared-slice-read-put-fix-line-3
-    add-put-fix-line-3
-    mul-put-fix-line-4
-    shared-slice-read-put-fix-line-4
-    mul-put-fix-line-5
     shared-slice-copy-out-put-fix-line
     put-fix-line-requires
     add-i

@@ -24,29 +24,29 @@ loop-holds : tie.Need-loop-holds Inv-loop μ-loop
 loop-holds c = lines-start (λ p. showLine "pend=" (showPair p)) (pairAt (c .before .before .args .numbers .now)) (c .before .before .args .n) _ _
 
 -- src/lib.rt:142:48
-add-put-pending-line : tie.Need-add-put-pending-line Inv-loop μ-loop
-add-put-pending-line c = search needs
+add-t10 : tie.Need-add-t10 Inv-loop μ-loop
+add-t10 c = search needs
 
 -- src/lib.rt:142:40
-mul-put-pending-line : tie.Need-mul-put-pending-line Inv-loop μ-loop
-mul-put-pending-line c = search needs
+mul-t11 : tie.Need-mul-t11 Inv-loop μ-loop
+mul-t11 c = search needs
 
 -- src/lib.rt:142:40
-shared-slice-read-put-pending-line : tie.Need-shared-slice-read-put-pending-line Inv-loop μ-loop
-shared-slice-read-put-pending-line c = search needs
+shared-slice-read-t13 : tie.Need-shared-slice-read-t13 Inv-loop μ-loop
+shared-slice-read-t13 c = search needs
 
 -- src/lib.rt:142:68
-add-put-pending-line-2 : tie.Need-add-put-pending-line-2 Inv-loop μ-loop
-add-put-pending-line-2 c = search needs
+add-t15 : tie.Need-add-t15 Inv-loop μ-loop
+add-t15 c = search needs
 
 -- src/lib.rt:142:60
-mul-put-pending-line-2 : tie.Need-mul-put-pending-line-2 Inv-loop μ-loop
-mul-put-pending-line-2 c = search needs
+mul-t16 : tie.Need-mul-t16 Inv-loop μ-loop
+mul-t16 c = search needs
 
 -- src/lib.rt:142:60
-shared-slice-read-put-pending-line-2 :
-    tie.Need-shared-slice-read-put-pending-line-2 Inv-loop μ-loop
-shared-slice-read-put-pending-line-2 c = search needs
+shared-slice-read-t18 :
+    tie.Need-shared-slice-read-t18 Inv-loop μ-loop
+shared-slice-read-t18 c = search needs
 
 -- src/lib.rt:142:9
 put-pending-line-requires : tie.Need-put-pending-line-requires Inv-loop μ-loop
@@ -79,12 +79,12 @@ put-pending-spec =
     Inv-loop
     μ-loop
     loop-holds
-    add-put-pending-line
-    mul-put-pending-line
-    shared-slice-read-put-pending-line
-    add-put-pending-line-2
-    mul-put-pending-line-2
-    shared-slice-read-put-pending-line-2
+    add-t10
+    mul-t11
+    shared-slice-read-t13
+    add-t15
+    mul-t16
+    shared-slice-read-t18
     put-pending-line-requires
     add-i
     loop-less

@@ -31,7 +31,7 @@ same-length c = search needs
 
 -- src/lib.rt:47:1
 returns : tie.Need-returns
-returns c = put-is (pending-parts (c .before .before .before .before .before .before .before .before .before .before .before .before .before .before .args .key) (c .before .before .before .before .before .before .before .before .before .before .before .before .before .before .args .time)) (put-append (put-append (c .before .before .before .before .before .before .before .before .before .before .put-word .ensures) (c .before .before .before .before .before .before .put-pair .ensures)) (c .before .before .put-mark .ensures))
+returns c = put-is (pending-parts (c .before .before .before .before .before .before .before .before .before .before .before .before .before .before .args .key .0) (c .before .before .before .before .before .before .before .before .before .before .before .before .before .before .args .time .0)) (put-append (put-append (c .before .before .before .before .before .before .before .before .before .before .put-word .ensures) (c .before .before .before .before .before .before .put-pair .ensures)) (c .before .before .put-mark .ensures))
 
 pub put-pending-line-spec : {M : Type 1} → statement M
 put-pending-line-spec =

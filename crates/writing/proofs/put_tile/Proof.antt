@@ -30,16 +30,16 @@ put-mark-requires-2 : tie.Need-put-mark-requires-2
 put-mark-requires-2 c κs = search needs
 
 -- src/lib.rt:93:37
-add-put-time : tie.Need-add-put-time
-add-put-time c = search needs
+add-t15 : tie.Need-add-t15
+add-t15 c = search needs
 
 -- src/lib.rt:93:29
-mul-put-time : tie.Need-mul-put-time
-mul-put-time c = search needs
+mul-t20 : tie.Need-mul-t20
+mul-t20 c = search needs
 
 -- src/lib.rt:93:29
-shared-slice-read-put-time : tie.Need-shared-slice-read-put-time
-shared-slice-read-put-time c = search needs
+shared-slice-read-t22 : tie.Need-shared-slice-read-t22
+shared-slice-read-t22 c = search needs
 
 -- src/lib.rt:93:5
 put-time-requires : tie.Need-put-time-requires
@@ -62,9 +62,9 @@ put-tile-spec =
     add-put-bound
     put-bound-requires-2
     put-mark-requires-2
-    add-put-time
-    mul-put-time
-    shared-slice-read-put-time
+    add-t15
+    mul-t20
+    shared-slice-read-t22
     put-time-requires
     same-length
     returns)
