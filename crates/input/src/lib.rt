@@ -1,8 +1,7 @@
 // "Input (old and new)": the records of both runs together, in order. Each run ascends already; here they are sorted by halves.
-use ordering::sort_places;
+use arranging::order_places;
 use slices::copy;
 use slices::copy_diffs;
-use slices::count_up;
 use slices::gather;
 use slices::gather_diffs;
 ghost use Prim.Native.Nat.{_+_, _≤_};
@@ -10,7 +9,7 @@ ghost use mathlib.Core.List.{[], _++_, map};
 ghost use mathlib.Core.Path.{_≡_};
 ghost use lib.ListN.{length, take};
 ghost use Rattle.slices.specs.Places.{entry, diffEntry};
-ghost use Rattle.arranging.specs.Arranged.{Room, sortedPlaces};
+ghost use Rattle.arranging.specs.Arranged.{sortedPlaces};
 ghost use Rattle.input.specs.Formed.{columns, Runs, Fits, Lending, Joined, Ordered, Formed};
 
 // One column after the other, in the front of a third.
@@ -34,25 +33,23 @@ fn append_diffs(first: &[i64], second: &[i64], out: &mut [i64])
     copy_diffs(second, &mut out[n..m]);
 }
 
-// The places of all records, in the order of the records.
-fn order_all(keys: &[u64], values: &[u64], times: &[u64], places: &mut [u64], work: &mut [u64])
-    requires { ⌜ Room (length (now keys)) (now places) (now work) ⌝ }
-    ensures { λ _. ⌜ now (places .exit) ≡ sortedPlaces (now (keys .entry)) (now (values .entry)) (now (times .entry)) [] ⌝ }
-{
-    let none = &keys[0..0];
-    count_up(places);
-    sort_places(keys, values, times, none, places, work);
-}
-
 // The places of the first n records, in the order of the records.
-fn order(keys: &[u64], values: &[u64], times: &[u64], n: usize, places: &mut [u64], work: &mut [u64])
+fn order(
+    keys: &[u64],
+    values: &[u64],
+    times: &[u64],
+    n: usize,
+    places: &mut [u64],
+    work: &mut [u64],
+)
     requires { ⌜ (n ≤ length (now keys)) × ((n ≤ length (now values)) × ((n ≤ length (now times)) × ((n ≤ length (now places)) × (n ≤ length (now work))))) ⌝ }
     ensures { λ _. ⌜ take n (now (places .exit)) ≡ sortedPlaces (take n (now (keys .entry))) (take n (now (values .entry))) (take n (now (times .entry))) [] ⌝ }
 {
-    order_all(
+    order_places(
         &keys[0..n],
         &values[0..n],
         &times[0..n],
+        &keys[0..0],
         &mut places[0..n],
         &mut work[0..n],
     );

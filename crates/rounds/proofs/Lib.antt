@@ -4,3 +4,8 @@ pub mod Passing
 pub mod Mixing
 pub mod Seen
 pub mod Showing
+pub mod Taking
+pub mod Listing
+pub mod Merging
+pub mod Noting
+pub mod Laying

@@ -28,18 +28,18 @@ use Rattle.rounds.specs.Present.{edits}
 use Rattle.rounds.specs.Merges.{byValue, merged, Merges, Rows}
 use Rattle.rounds.proofs.Shown.{shown}
 
-abbrev e₀ : Edit
+abbrev pub e₀ : Edit
 e₀ = ((0, 0), pos 0)
 
 -- ---- the columns of edits
-edits-values : (vs ts : List ℕ) (ds : List ℤ) → length ts ≡ length vs → length ds ≡ length vs → map valueOf (edits vs ts ds) ≡ vs
+pub edits-values : (vs ts : List ℕ) (ds : List ℤ) → length ts ≡ length vs → length ds ≡ length vs → map valueOf (edits vs ts ds) ≡ vs
 unfolding edits valueOf
 edits-values [] ts ds a b = refl
 edits-values (v ∷ vs) [] ds a b = no-length (length vs) (sym a)
 edits-values (v ∷ vs) (t ∷ ts) [] a b = no-length (length vs) (sym b)
 edits-values (v ∷ vs) (t ∷ ts) (d ∷ ds) a b = ap (λ l. v ∷ l) (edits-values vs ts ds (less a) (less b))
 
-edits-at : (vs ts : List ℕ) (ds : List ℤ) (i : ℕ) → length ts ≡ length vs → length ds ≡ length vs → i < length vs → getD (edits vs ts ds) i e₀ ≡ ((getD ts i 0, getD vs i 0), getD ds i (pos 0))
+pub edits-at : (vs ts : List ℕ) (ds : List ℤ) (i : ℕ) → length ts ≡ length vs → length ds ≡ length vs → i < length vs → getD (edits vs ts ds) i e₀ ≡ ((getD ts i 0, getD vs i 0), getD ds i (pos 0))
 unfolding edits
 edits-at [] ts ds i a b h = absurd (omega arith)
 edits-at (v ∷ vs) [] ds i a b h = no-length (length vs) (sym a)
@@ -73,7 +73,7 @@ ranking-value = record {
   total = λ a b p. ranking-leb .total (valueOf a) (valueOf b) p;
 }
 
-sorted-of : (es : List Edit) → Sorted leb (map valueOf es) → Sorted byValue es
+pub sorted-of : (es : List Edit) → Sorted leb (map valueOf es) → Sorted byValue es
 sorted-of [] s = none
 sorted-of (e ∷ es) (more h s) = more (map-all valueOf es h) (sorted-of es s)
 

@@ -1,4 +1,5 @@
 pub mod Present
-pub mod Merges
 pub mod Window
+pub mod Merges
+pub mod Fixes
 pub mod Slots

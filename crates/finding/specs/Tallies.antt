@@ -1,0 +1,89 @@
+-- discover_times for the keys of a window, one after the other: their moments laid in a row, their pended times appended to the next pending list.
+-- 18: "for some key: over 1,024 moments … ; or over 4,096 pended in all".
+--
+-- mostInput, mostWindow: the most records of the input, and the most moments of a window
+-- Scratch: memory that serves any key of a call. LentTally: memory in which the tally goes on. LentSlot: what one key's discovery asks
+-- Extends: a list was appended, in memory that is used past it
+-- pendedCount, Counts, Tallied: what is counted of one key. slotOver: a limit was passed before, or by this key. FindsSlot: what one key's discovery leaves
+use Prim.Native.Nat.{ℕ, suc, _+_, _≤_}
+use mathlib.Core.Bool.{Bool, false, cond, _||_}
+use mathlib.Core.List.{List, _++_}
+use mathlib.Core.Path.{_≡_}
+use lib.Dec.{ltb}
+use lib.IntN.{ℤ}
+use lib.ListN.{length, take, replicate}
+use Rattle.grid.specs.Records.{mostRecords}
+use Rattle.rules.specs.Discover.{mostMoments, State}
+use Rattle.consolidation.specs.Entries.{Lent}
+use Rattle.edits.specs.Edits.{Alike}
+use Rattle.backends.specs.Columns.{Column}
+use Rattle.discover.specs.declared.Found.{Found}
+use Rattle.finding.specs.Appends.{NextRoom}
+use Rattle.finding.specs.declared.Tally.{Tally}
+
+-- the most records of the input: those of the old run and of the new one
+abbrev pub mostInput : ℕ
+mostInput = 8192
+
+-- the most moments of a window
+abbrev pub mostWindow : ℕ
+mostWindow = 65536
+
+pub record Scratch (seeds times values : List ℕ) (diffs : List ℤ) (output meets waiting tracked pended work places wvalues : List ℕ) (wdiffs : List ℤ) : Type 0 where
+  pub seeds-room : mostRecords ≤ length seeds
+  pub input-alike : Alike times values diffs
+  pub input-room : mostInput ≤ length times
+  pub output-room : mostRecords ≤ length output
+  pub meets-room : ((mostRecords + mostRecords) + mostInput) + mostRecords ≤ length meets
+  pub waiting-room : suc mostMoments ≤ length waiting
+  pub tracked-room : mostRecords + suc mostMoments ≤ length tracked
+  pub pended-room : suc mostMoments ≤ length pended
+  pub work-room : mostInput ≤ length work
+  pub for-tracked : length tracked ≤ length work
+  pub places-room : mostInput ≤ length places
+  pub wvalues-room : mostInput ≤ length wvalues
+  pub wdiffs-room : mostInput ≤ length wdiffs
+
+pub record LentTally (moments nextkeys nexttimes : List ℕ) (p : Tally) : Type 0 where
+  pub moments-room : p .moments + suc mostMoments ≤ length moments
+  pub moments-few : p .moments ≤ mostWindow
+  pub next-room : NextRoom (p .pended) nextkeys nexttimes
+
+pub record LentSlot (seedtimes pending intimes invalues : List ℕ) (indiffs : List ℤ) (outtimes moments nextkeys nexttimes : List ℕ) (p : Tally) : Type 0 where
+  pub seeds-few : length seedtimes ≤ mostRecords
+  pub pending-few : length pending ≤ mostRecords
+  pub input-lent : Lent intimes invalues indiffs
+  pub input-few : length intimes ≤ mostInput
+  pub output-few : length outtimes ≤ mostRecords
+  pub goes-on : LentTally moments nextkeys nexttimes p
+
+-- `new` follows what stood before `at`, up to r; what lies past r is not told
+pub record Extends {A : Type 0} (before : List A) (at : ℕ) (new after : List A) (r : ℕ) : Type 0 where
+  pub end : r ≡ at + length new
+  pub front : take r after ≡ take at before ++ new
+
+unfoldable pub slotOver : Bool → ℕ → State → Bool
+slotOver over n D = over || (D .over || ltb mostRecords (n + length (D .pended)))
+
+-- how many times a key has pended; none where a limit was passed
+unfoldable pub pendedCount : Found → ℕ
+pendedCount r = cond (r .over) 0 (r .pended)
+
+pub record Counts (p : Tally) (r : Found) : Type 0 where
+  pub before-few : p .moments ≤ mostWindow
+  pub found-few : r .over ≡ false → r .moments ≤ mostMoments
+
+pub record Tallied (p : Tally) (r : Found) (n : ℕ) (q : Tally) : Type 0 where
+  pub over-is : q .over ≡ (p .over || (r .over || ltb mostRecords n))
+  pub moments-few : q .moments ≤ p .moments + mostMoments
+  pub pended-few : p .pended ≤ mostRecords → q .pended ≤ mostRecords
+  pub moments-are : q .over ≡ false → q .moments ≡ p .moments + r .moments
+  pub pended-are : q .over ≡ false → (q .pended ≡ n) × (n ≤ mostRecords)
+
+pub record FindsSlot (D : State) (k : ℕ) (p : Tally) (moments nextkeys nexttimes moments′ nextkeys′ nexttimes′ : List ℕ) (r : Tally) : Type 0 where
+  pub over-is : r .over ≡ slotOver (p .over) (p .pended) D
+  pub moments-few : r .moments ≤ p .moments + mostMoments
+  pub next-few : r .pended ≤ mostRecords
+  pub moments-are : r .over ≡ false → Extends moments (p .moments) (D .moments) moments′ (r .moments)
+  pub keys-are : r .over ≡ false → Column nextkeys (p .pended) (replicate (length (D .pended)) k) nextkeys′ (r .pended)
+  pub times-are : r .over ≡ false → Column nexttimes (p .pended) (D .pended) nexttimes′ (r .pended)

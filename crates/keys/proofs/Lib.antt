@@ -1,0 +1,3 @@
+pub mod Spans
+pub mod Changed
+pub mod Ranked

@@ -1,0 +1,4 @@
+pub mod Parts
+pub mod Placed
+pub mod Sorted
+pub mod Told

@@ -1,0 +1,5 @@
+pub mod SlotLaws
+pub mod Presented
+pub mod Longest
+pub mod Rounded
+pub mod Going
