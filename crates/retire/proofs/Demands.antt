@@ -27,7 +27,7 @@ use Rattle.rules.proofs.Statuses.{call-one-of}
 use Rattle.rules.proofs.Width.{atWidth, Agree, width-agrees, longest, sumOf, call-crossings}
 use Rattle.retire.specs.Answers.{Retires, answerIn}
 use Rattle.retire.specs.Exchanges.{Exchange, asked, answer, Follows, StaysListed, ends, goes-on, passes-over, no-more, unheard, listed, settled}
-use Rattle.retire.specs.declared.Outcome.{Outcome}
+use Rattle.answers.specs.declared.Outcome.{Outcome}
 use Rattle.retire.proofs.Read.{answer-read}
 
 module _ (z : Sizes) (l : Lent) (r : Outcome) (m : Memory) (R : Retires z l r m) where

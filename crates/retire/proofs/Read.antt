@@ -25,7 +25,7 @@ use Rattle.rules.proofs.Statuses.{call-refused}
 use Rattle.rules.proofs.Memory.{Fits, lent-fits, padded-length, tiles-numbers, tile-length, lent-well, lent-ill}
 use Rattle.arranging.specs.Arranged.{fixes}
 use Rattle.retire.specs.Answers.{Retires, columnsPast, tileIn, tilesIn, answerIn}
-use Rattle.retire.specs.declared.Outcome.{Outcome}
+use Rattle.answers.specs.declared.Outcome.{Outcome}
 
 fixes-columns : (fs : List Fix) → fixes (map (λ (f : Fix). f .tile) fs) (map (λ (f : Fix). f .row .key) fs) (map (λ (f : Fix). f .row .value) fs) (map (λ (f : Fix). f .row .time) fs) (map (λ (f : Fix). f .row .diff) fs) ≡ fs
 fixes-columns [] = refl

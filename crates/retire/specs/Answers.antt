@@ -14,7 +14,7 @@ use Rattle.rules.specs.Tiles.{Tile}
 use Rattle.rules.specs.Call.{Answer}
 use Rattle.rules.specs.Memory.{Memory, Sizes, Lent, mostBound, tileSize, callLent, after}
 use Rattle.arranging.specs.Arranged.{fixes}
-use Rattle.retire.specs.declared.Outcome.{Outcome}
+use Rattle.answers.specs.declared.Outcome.{Outcome}
 
 pub record Retires (z : Sizes) (l : Lent) (r : Outcome) (m : Memory) : Type 0 where
   pub status-is : r .status ≡ callLent z l .status

@@ -13,7 +13,7 @@ use Rattle.rules.specs.Call.{Request, Answer}
 use Rattle.rules.specs.Memory.{Memory, Sizes, Lent, requestOf}
 use Rattle.rules.specs.Runs.{accepted, lists, Settled}
 use Rattle.retire.specs.Answers.{Retires, answerIn}
-use Rattle.retire.specs.declared.Outcome.{Outcome}
+use Rattle.answers.specs.declared.Outcome.{Outcome}
 
 module _ (z : Sizes) where
   pub record Exchange : Type 0 where

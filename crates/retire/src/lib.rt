@@ -1,9 +1,1 @@
-// "One call": what it says beside what it writes.
-pub struct Outcome {
-    pub status: u64,
-    pub crossings: u64,
-    pub tiles: usize,
-    pub fixes: usize,
-    pub pending: usize,
-    pub frontier: usize,
-}
+// "One call": its statement (specs/), and the three demands about the answer that a caller reads (proofs/); no functions yet.
