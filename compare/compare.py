@@ -9,7 +9,7 @@ import sys
 import time
 
 from lineform import ANSWER, check, fits, read, refused, write
-from programs import Program
+from programs import Program, tell
 from shapes import SHAPES, following, near, refusals
 
 
@@ -74,11 +74,7 @@ def main():
                 break
             nexts = [following(g, read(data), w) for (_, _, data), w in zip(batch, answers) if refused(data) is None]
             batch = [("call %d in a row" % (call + 2), r, write(r)) for r in nexts if r][: max(0, a.count - compared)]
-    print("compared=%d" % compared)
-    for name, n in sorted(kinds.items()):
-        print("  %s: %d" % (name, n))
-    for status, n in sorted(statuses.items()):
-        print("  status %d: %d" % (status, n))
+    tell("compared", compared, kinds, statuses)
     print("different=%d" % different)
     return 1 if different else 0
 

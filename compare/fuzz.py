@@ -8,7 +8,7 @@ import time
 
 from compare import save
 from lineform import ANSWER, MOST_BYTES, fits, refused, write
-from programs import Program
+from programs import Program, tell
 from shapes import SHAPES, refusals
 
 ODD = (b"\0", b"\r", b" ", b"\t", b"-", b"+", b"=", b",", b":", b";", b"/", b"0", b"9", b"\n", b"\x80", b"\xff", b"e", b"x")
@@ -172,11 +172,7 @@ def main():
             different += 1
             if different == 1:
                 save(a.save, data, want, got)
-    print("damaged=%d" % done)
-    for name, n in sorted(damages.items()):
-        print("  %s: %d" % (name, n))
-    for status, n in sorted(statuses.items()):
-        print("  status %d: %d" % (status, n))
+    tell("damaged", done, damages, statuses)
     print("unanswered=%d" % unanswered)
     print("different=%d" % different)
     return 1 if different else 0

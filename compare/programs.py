@@ -43,3 +43,11 @@ class Program:
                 pass
         with concurrent.futures.ThreadPoolExecutor(self.jobs) as pool:
             return list(pool.map(self.one, requests))
+
+
+def tell(word, count, kinds, statuses):
+    print("%s=%d" % (word, count))
+    for name, n in sorted(kinds.items()):
+        print("  %s: %d" % (name, n))
+    for status, n in sorted(statuses.items()):
+        print("  status %d: %d" % (status, n))

@@ -6,8 +6,8 @@ use Prim.Native.Nat.{ℕ, _+_, _-_, _≤_, _<_, min}
 use native.Mathlib.Nat.{sub-zero}
 use native.Mathlib.Omega.{arith}
 use mathlib.Core.Bool.{true, false, _&&_}
-use mathlib.Core.List.{List, [], _∷_, map}
-use mathlib.Core.Path.{_≡_, refl, ap}
+use mathlib.Core.List.{List, []}
+use mathlib.Core.Path.{_≡_, refl, sym}
 use lib.Dec.{leb}
 use lib.IntN.{ℤ}
 use lib.ListN.{length, take, length-take}
@@ -17,6 +17,7 @@ use Rattle.grid.specs.Records.{Row, rows, pairs}
 use Rattle.rules.specs.Call.{Answer, refused, quietAnswer}
 use Rattle.results.specs.Told.{Told, Counted, Published, QuietTold, NothingTold, Ready, published}
 use Rattle.results.specs.Parts.{Next}
+use Rattle.results.proofs.Told.{pairs-times}
 use Rattle.results.specs.declared.worked.Counts.{Counts}
 use Rattle.answers.specs.Tells.{Tells, TellsQuiet, Concludes, concluded}
 use Rattle.answers.specs.declared.Outcome.{Outcome}
@@ -52,12 +53,6 @@ module _ {n : Counts} {res res′ : List ℕ} {rd rd′ : List ℤ} where
   worked-tells crossings t = counted-tells (t .counted crossings) (t .told crossings)
 
 -- ---- which answer it is
-pairs-times : (ks ts : List ℕ) → length ks ≡ length ts → map (λ p. p .1) (pairs ks ts) ≡ ts
-pairs-times [] [] e = refl
-pairs-times [] (t ∷ ts) e = absurd (omega arith)
-pairs-times (k ∷ ks) [] e = absurd (omega arith)
-pairs-times (k ∷ ks) (t ∷ ts) e = ap (λ r. t ∷ r) (pairs-times ks ts (omega arith))
-
 module _ (c : Course) (lower upper held : List ℕ) (rs : List Row) (ks ts : List ℕ) where
   abbrev one : Answer
   one = concluded c lower upper held rs (pairs ks ts)
@@ -69,15 +64,15 @@ module _ (c : Course) (lower upper held : List ℕ) (rs : List Row) (ks ts : Lis
   module _ (e : c .over ≡ false) (same : length ks ≡ length ts) where
     concluded-many : mostTimes < length (minimal ts) → one ≡ refused 18
     unfolding concluded
-    concluded-many h = rw (e, pairs-times ks ts same, lt-ltb mostTimes (length (minimal ts)) h)
+    concluded-many h = rw (e, pairs-times ks ts (sym same), lt-ltb mostTimes (length (minimal ts)) h)
 
     concluded-large : length (minimal ts) ≤ mostTimes → c .large ≡ true → one ≡ refused 19
     unfolding concluded
-    concluded-large h l = rw (e, pairs-times ks ts same, le-ltb mostTimes (length (minimal ts)) h, l)
+    concluded-large h l = rw (e, pairs-times ks ts (sym same), le-ltb mostTimes (length (minimal ts)) h, l)
 
     concluded-worked : length (minimal ts) ≤ mostTimes → c .large ≡ false → one ≡ published (c .crossings) lower upper held rs (pairs ks ts) (minimal ts)
     unfolding concluded
-    concluded-worked h l = rw (e, pairs-times ks ts same, le-ltb mostTimes (length (minimal ts)) h, l)
+    concluded-worked h l = rw (e, pairs-times ks ts (sym same), le-ltb mostTimes (length (minimal ts)) h, l)
 
 -- ---- the call, branch by branch
 module _ {c : Course} {lower upper held keys values times : List ℕ} {diffs : List ℤ} {pendkeys pendtimes out places work res : List ℕ} {rd : List ℤ}

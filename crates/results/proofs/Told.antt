@@ -33,7 +33,7 @@ pairs-keys [] ts e = refl
 pairs-keys (k ∷ ks) [] e = absurd (omega arith)
 pairs-keys (k ∷ ks) (t ∷ ts) e = ap (λ l. k ∷ l) (pairs-keys ks ts (omega arith))
 
-pairs-times : (ks ts : List ℕ) → length ts ≡ length ks → map (λ (p : ℕ × ℕ). p .1) (pairs ks ts) ≡ ts
+pub pairs-times : (ks ts : List ℕ) → length ts ≡ length ks → map (λ (p : ℕ × ℕ). p .1) (pairs ks ts) ≡ ts
 pairs-times [] [] e = refl
 pairs-times [] (t ∷ ts) e = absurd (omega arith)
 pairs-times (k ∷ ks) [] e = absurd (omega arith)

@@ -1,7 +1,7 @@
 -- "After 0, 1 and 2 unused result entries and work memory are zero." "'Cleared' is all zero over the whole result and work memory."
 --
 -- Told a: result memory holds the answer a, and zeros past it. Counted a: the counts are of the answer's lists
--- placed held ts rs: corrections, each with the place of its tile. published: the answer of a call that worked. corrections ds: what the rules correct, key by key
+-- placed held ts rs: corrections, each with the place of its tile. published: the answer of a call that worked
 -- Ready, Published: what publish takes, and what it says. Quiet, QuietTold: the same of publish_quiet. NothingTold: what publish_nothing says
 -- emptied, emptiedDiffs: slices, all zero
 use Prim.Native.Nat.{ℕ, _≤_}
@@ -11,12 +11,10 @@ use mathlib.Core.Path.{_≡_}
 use lib.Dec.{leb}
 use lib.IntN.{ℤ, pos}
 use lib.ListN.{length, replicate}
-use Rattle.grid.specs.Lists.{flat}
 use Rattle.grid.specs.Frontiers.{mostTimes}
 use Rattle.grid.specs.Records.{Row, mostRecords, rows, pairs}
 use Rattle.rules.specs.Tiles.{Tile, tiles, tileOf}
-use Rattle.rules.specs.Retire.{Round}
-use Rattle.rules.specs.Call.{Fix, Request, Done, Answer, refused, quietAnswer}
+use Rattle.rules.specs.Call.{Fix, Request, Answer, refused, quietAnswer}
 use Rattle.rules.specs.Memory.{numbersSize, numbers, diffs, leaves}
 use Rattle.results.specs.Sorted.{sortedFixes}
 use Rattle.results.specs.declared.worked.Counts.{Counts}
@@ -43,11 +41,6 @@ published crossings lower upper held rs ps f = record {
   pending = ps;
   frontier = f;
 }
-
--- what the rules correct, key by key
-unfoldable pub corrections : List Done → List Row
-corrections ds =
-    flat (λ (d : Done). flat (λ (r : Round). map (λ p. record { key = d .key; value = p .0; time = r .time; diff = p .1 }) (r .fixes)) (d .rounds)) ds
 
 -- ---- a call that worked
 pub record Published (keys values times : List ℕ) (diffs : List ℤ) (pendkeys pendtimes frontier lower upper held res res′ : List ℕ) (rd rd′ : List ℤ) (n : Counts) : Type 0 where
