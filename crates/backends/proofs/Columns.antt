@@ -1,6 +1,6 @@
 -- Laws of columns, and the loop that appends to one.
 --
--- less, no-length: two lengths are equal, where both lists have an element, where one has none
+-- less: two lengths are equal, where both lists have an element
 -- drop-entries, take-entries, length-entries, getD-entries, values-entries: of two columns of one length
 -- Writing before at goal xs k rest: of `goal`, to be appended at `at`, `rest` is still to be written, from k on
 -- writing-start, writing-more, writing-append, writing-is, writing-end: one entry written, many, none, all
@@ -8,20 +8,18 @@
 use Prim.Native.Nat.{ℕ, zero, suc, _+_, _<_}
 use native.Mathlib.Omega.{arith}
 use mathlib.Core.Path.{_≡_, refl, sym, _∙_, ap, subst}
-use mathlib.Core.List.{List, [], _∷_, _++_, map, append-nil, append-assoc}
+use mathlib.Core.List.{List, [], _∷_, _++_, append-nil, append-assoc, map-append}
 use lib.IntN.{ℤ, pos}
 use lib.ListN.{length, take, drop, getD, set, length-set, length-append}
 use lib.Seq.{drop-drop}
 use Rattle.grid.proofs.Lists.{All, nil, cons}
 use Rattle.grid.proofs.Loops.{put-more, ahead-set}
+use Rattle.grid.proofs.Operations.{no-length}
 use Rattle.rules.specs.Backends.{Sums}
 use Rattle.backends.specs.Columns.{entries, valuesOf, diffsOf, Column, Appended}
 
 pub less : {a b : ℕ} → suc a ≡ suc b → a ≡ b
 less {a} {b} e = omega arith
-
-pub no-length : {X : Type 0} (n : ℕ) → suc n ≡ 0 → X
-no-length n e = absurd (omega arith)
 
 entries-none : (vs : List ℕ) → entries vs [] ≡ []
 unfolding entries
@@ -61,15 +59,6 @@ unfolding entries
 values-entries [] ds e = refl
 values-entries (v ∷ vs) [] e = no-length (length vs) (sym e)
 values-entries (v ∷ vs) (d ∷ ds) e = ap (λ l. v ∷ l) (values-entries vs ds (less e))
-
-pub map-drop : {A B : Type 0} (f : A → B) (n : ℕ) (l : List A) → map f (drop n l) ≡ drop n (map f l)
-map-drop f zero l = refl
-map-drop f (suc n) [] = refl
-map-drop f (suc n) (x ∷ l) = map-drop f n l
-
-pub map-append : {A B : Type 0} (f : A → B) (xs ys : List A) → map f (xs ++ ys) ≡ map f xs ++ map f ys
-map-append f [] ys = refl
-map-append f (x ∷ xs) ys = ap (λ l. f x ∷ l) (map-append f xs ys)
 
 module _ {A : Type 0} {P : A → Type 0} where
   pub all-take : (n : ℕ) {l : List A} → All P l → All P (take n l)

@@ -1,5 +1,4 @@
 pub mod Signed
-pub mod Adding
 pub mod Columns
 pub mod Turns
 pub mod Walk

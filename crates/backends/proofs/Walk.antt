@@ -19,11 +19,13 @@ use Rattle.grid.specs.Consolidate.{isZero, unlessZero}
 use Rattle.grid.proofs.Loops.{all-getD}
 use Rattle.grid.proofs.Consolidate.{Canon}
 use Rattle.rules.specs.Backends.{Sums, distinct, minus}
-use Rattle.backends.specs.Columns.{entries, valuesOf, Appended, modest}
+use Rattle.diffs.specs.Diffs.{modest}
+use Rattle.backends.specs.Columns.{entries, valuesOf, Appended}
 use Rattle.backends.specs.Correct.{distinctMinus, turn, Ready}
 use Rattle.grid.proofs.Signed.{back}
-use Rattle.backends.proofs.Signed.{in-local}
-use Rattle.backends.proofs.Columns.{length-entries, values-entries, map-drop, Filling, filling-start, filling-is, filling-more, filling-end}
+use Rattle.grid.proofs.Operations.{map-drop}
+use Rattle.diffs.proofs.Signed.{in-local}
+use Rattle.backends.proofs.Columns.{length-entries, values-entries, Filling, filling-start, filling-is, filling-more, filling-end}
 use Rattle.backends.proofs.Turns.{canon-drop, left-step, right-step, both-step, pass-step, input-more, turn-in, turn-out}
 
 module _ (iv : List ℕ) (id : List ℤ) (ov : List ℕ) (od : List ℤ) where

@@ -16,10 +16,11 @@ use Rattle.grid.proofs.Tests.{clash}
 use Rattle.grid.proofs.Lists.{nil}
 use Rattle.grid.proofs.Sums.{sum}
 use Rattle.grid.proofs.Consolidate.{none, more}
+use Rattle.grid.proofs.Operations.{no-length}
 use Rattle.rules.specs.Backends.{Sums, listed, count, distinct, wanted, minus, correction}
 use Rattle.backends.specs.Columns.{entries, Appended}
 use Rattle.backends.specs.Correct.{distinctMinus, Ready, Segment}
-use Rattle.backends.proofs.Columns.{less, no-length}
+use Rattle.backends.proofs.Columns.{less}
 
 total-entries : (vs : List ℕ) (ds : List ℤ) → length ds ≡ length vs → total (entries vs ds) ≡ sum (λ x. x) ds
 unfolding entries

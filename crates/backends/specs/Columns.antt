@@ -3,11 +3,10 @@
 -- entries vs ds: two columns, entry by entry. valuesOf, diffsOf: the columns of a list of entries
 -- Column before at new after r: `new` is written from `at` to r, and what stood before `at` and past r is as it was
 -- Appended: the same of a column of values and one of diffs
--- modest: a diff that a difference can be made of, and a sum of 8,192 of them
-use Prim.Native.Nat.{ℕ, _+_, _≤_, _^_}
+use Prim.Native.Nat.{ℕ, _+_}
 use mathlib.Core.List.{List, [], _∷_, _++_, map}
 use mathlib.Core.Path.{_≡_}
-use lib.IntN.{ℤ, natAbs}
+use lib.IntN.{ℤ}
 use lib.ListN.{length, take, drop}
 use Rattle.rules.specs.Backends.{Sums}
 
@@ -30,6 +29,3 @@ pub record Column {A : Type 0} (before : List A) (at : ℕ) (new : List A) (afte
 pub record Appended (vs₀ : List ℕ) (ds₀ : List ℤ) (at : ℕ) (new : Sums) (vs : List ℕ) (ds : List ℤ) (r : ℕ) : Type 0 where
   pub values : Column vs₀ at (valuesOf new) vs r
   pub diffs : Column ds₀ at (diffsOf new) ds r
-
-abbrev pub modest : ℤ → Type 0
-modest d = natAbs d ≤ 2 ^ 48

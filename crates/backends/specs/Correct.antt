@@ -14,7 +14,8 @@ use Rattle.grid.specs.Consolidate.{consolidate}
 use Rattle.grid.proofs.Lists.{All}
 use Rattle.grid.proofs.Consolidate.{Canon}
 use Rattle.rules.specs.Backends.{Sums, listed, distinct, minus}
-use Rattle.backends.specs.Columns.{entries, modest}
+use Rattle.diffs.specs.Diffs.{modest}
+use Rattle.backends.specs.Columns.{entries}
 
 unfoldable pub distinctMinus : Sums → Sums → Sums
 distinctMinus input output = consolidate ltb (distinct input ++ minus output)

@@ -16,7 +16,8 @@ use Rattle.grid.specs.Lists.{flat}
 use Rattle.grid.proofs.Lists.{All}
 use Rattle.grid.proofs.Consolidate.{Canon}
 use Rattle.rules.specs.Backends.{Sums, correction}
-use Rattle.backends.specs.Columns.{entries, modest, Column, Appended}
+use Rattle.diffs.specs.Diffs.{modest}
+use Rattle.backends.specs.Columns.{entries, Column, Appended}
 
 module _ {A : Type 0} where
   abbrev pub part : ℕ → ℕ → List A → List A

@@ -1,10 +1,10 @@
 // One key's correction.
-use crate::diffs::count_id;
-use crate::diffs::is_listed;
-use crate::diffs::is_zero;
-use crate::diffs::negated;
-use crate::diffs::one_less;
-use crate::diffs::total;
+use crate::listed::is_listed;
+use diffs::count_id;
+use diffs::is_zero;
+use diffs::negated;
+use diffs::one_less;
+use diffs::total;
 ghost use mathlib.Core.Path.{_≡_};
 ghost use lib.ListN.{length, drop};
 ghost use Rattle.rules.specs.Backends.{correction};

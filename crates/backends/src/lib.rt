@@ -1,8 +1,7 @@
 // "Backends": what is wanted of a key's summed input, minus what is present of its output; and the crossing of many keys together.
 mod correction;
 mod crossing;
-mod diffs;
+mod listed;
 
 pub use correction::correct;
 pub use crossing::reduce_corrections;
-pub use diffs::is_zero;

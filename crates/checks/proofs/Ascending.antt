@@ -1,6 +1,5 @@
 -- Loops that compare each entry of zipped columns with the next one.
 --
--- lex-same, lex-first: a lexicographic order, where the first parts are equal and where they decide
 -- zipped-length, zipped-at: of two columns of one length
 -- climb-hit, climb-miss, climb-end: the entry at i is not before the next one, is before it, no two entries are left
 use Prim.Native.Nat.{ℕ, zero, suc, _+_, _≤_, _<_}
@@ -8,24 +7,11 @@ use native.Mathlib.Omega.{arith}
 use mathlib.Core.Bool.{Bool, true, false, _&&_}
 use mathlib.Core.List.{List, [], _∷_}
 use mathlib.Core.Path.{_≡_, refl, sym, _∙_, ap}
-use lib.Dec.{ltb}
 use lib.ListN.{length, drop, getD}
-use borrow.Author.Tests.{ltb-false, lt-ltb, le-ltb}
 use Rattle.grid.specs.Lists.{ascending}
-use Rattle.grid.specs.Consolidate.{lex}
-use Rattle.grid.proofs.Tests.{by-test}
 use Rattle.grid.proofs.Loops.{drop-more}
+use Rattle.grid.proofs.Operations.{no-length}
 use Rattle.checks.specs.Checks.{zipped}
-
-module _ {B : Type 0} (lt : B → B → Bool) (a x : ℕ) (b y : B) where
-  pub lex-same : a ≡ x → lt b y ≡ lex ltb lt (a, b) (x, y)
-  lex-same e = rw (le-ltb a x (omega arith), le-ltb x a (omega arith))
-
-  pub lex-first : (a ≡ x → ⊥) → ltb a x ≡ lex ltb lt (a, b) (x, y)
-  lex-first n = by-test (ltb a x) (λ e. rw e) (λ e. rw (e, lt-ltb x a (omega (arith, n, ltb-false a x e))))
-
-pub no-length : {X : Type 0} (n : ℕ) → suc n ≡ 0 → X
-no-length n e = absurd (omega arith)
 
 module _ {A B : Type 0} where
   pub zipped-length : (as′ : List A) (bs : List B) → length bs ≡ length as′ → length (zipped as′ bs) ≡ length as′

@@ -1,4 +1,3 @@
 pub mod Ascending
-pub mod Diffs
 pub mod Room
 pub mod Rows

@@ -18,11 +18,12 @@ use Rattle.grid.specs.Lists.{every, isEmpty, ascending}
 use Rattle.grid.specs.Frontiers.{beyond, shortOf}
 use Rattle.grid.specs.Consolidate.{lex}
 use Rattle.grid.specs.Records.{Row, Columns, rows, pairs, mostRecords, rank, rankBefore, before, goodDiff, goodRun}
-use Rattle.grid.proofs.Tests.{by-test, and-l, and-r}
+use Rattle.grid.proofs.Tests.{by-test, and-l, and-r, and-false}
+use Rattle.grid.proofs.Operations.{no-length, pairs-times}
 use Rattle.rules.specs.Call.{check11, check12, check13, check14, check15, check16, isHeld, check17, quiet, unchanged, verdict}
 use Rattle.rules.specs.Memory.{Memory, Sizes, Lent, alike, longEnough, roomy, lentWell, rowsOf, requestOf, numbersSize}
 use Rattle.checks.specs.Checks.{zipped, asked, level, roomFor, sized, frontiers, above, inOrder, placed, heldAt, covered, timesVerdict, recordsVerdict, columnsVerdict, sizesOf, lengthsOf, statusBeforeWork}
-use Rattle.checks.proofs.Ascending.{no-length, zipped-length}
+use Rattle.checks.proofs.Ascending.{zipped-length}
 
 -- ---- tests of a list
 module _ {A B : Type 0} (f : A → B) where
@@ -45,10 +46,6 @@ every-both p q (x ∷ xs) =
     by-test (p x)
     (λ e. by-test (q x) (λ k. rw (e, k) (every-both p q xs)) (λ k. rw (e, k) (sym (and-false (every p xs)))))
     (λ e. rw e)
-  where
-    and-false : (b : Bool) → (b && false) ≡ false
-    and-false true = refl
-    and-false false = refl
 
 -- ---- columns of one length
 data Level : List ℕ → List ℕ → List ℕ → List ℤ → Type 0 where
@@ -137,12 +134,6 @@ pairs-zipped : (ks ts : List ℕ) → pairs ks ts ≡ zipped ks ts
 pairs-zipped [] ts = refl
 pairs-zipped (k ∷ ks) [] = refl
 pairs-zipped (k ∷ ks) (t ∷ ts) = ap (λ r. (k, t) ∷ r) (pairs-zipped ks ts)
-
-pairs-times : (ks ts : List ℕ) → length ts ≡ length ks → map (λ (p : ℕ × ℕ). p .1) (pairs ks ts) ≡ ts
-pairs-times [] [] e = refl
-pairs-times [] (t ∷ ts) e = no-length (length ts) e
-pairs-times (k ∷ ks) [] e = no-length (length ks) (sym e)
-pairs-times (k ∷ ks) (t ∷ ts) e = ap (λ r. t ∷ r) (pairs-times ks ts (omega (arith, e)))
 
 module _ (ks ts : List ℕ) (e : length ts ≡ length ks) where
   pending-length : length (pairs ks ts) ≡ length ks

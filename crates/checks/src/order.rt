@@ -1,23 +1,15 @@
 // Check 14, "a run out of order or a diff out of range", and check 15, "pending not strictly ascending by (key, time)".
+use diffs::all_good;
+use rows::pair_before;
 ghost use mathlib.Core.Path.{_≡_};
 ghost use mathlib.Core.Bool.{true, _&&_};
 ghost use lib.Dec.{ltb};
 ghost use lib.ListN.{length};
-ghost use Rattle.grid.specs.Lists.{every, ascending};
+ghost use Rattle.grid.specs.Lists.{ascending};
 ghost use Rattle.grid.specs.Consolidate.{lex};
-ghost use Rattle.grid.specs.Records.{rankBefore, goodDiff};
+ghost use Rattle.grid.specs.Records.{rankBefore};
 ghost use Rattle.rules.specs.Memory.{alike};
 ghost use Rattle.checks.specs.Checks.{zipped, columns, inOrder};
-
-// Whether (a, b) is before (x, y).
-fn pair_before(a: u64, b: u64, x: u64, y: u64) -> bool
-    ensures { λ r. ⌜ r ≡ lex ltb ltb (a, b) (x, y) ⌝ }
-{
-    if a == x {
-        return b < y;
-    }
-    a < x
-}
 
 // Whether (a, b, c) is before (x, y, z).
 fn rank_before(a: u64, b: u64, c: u64, x: u64, y: u64, z: u64) -> bool
@@ -27,33 +19,6 @@ fn rank_before(a: u64, b: u64, c: u64, x: u64, y: u64, z: u64) -> bool
         return pair_before(b, c, y, z);
     }
     a < x
-}
-
-// Whether a diff is nonzero and from -2^31 to 2^31.
-fn is_good_diff(d: i64) -> bool
-    ensures { λ r. ⌜ r ≡ goodDiff d ⌝ }
-{
-    if d < 0 {
-        return d >= -2147483648;
-    }
-    if d > 0 {
-        return d <= 2147483648;
-    }
-    false
-}
-
-// Whether every diff is good.
-fn all_good(ds: &[i64]) -> bool
-    ensures { λ r. ⌜ r ≡ every goodDiff (now (ds .entry)) ⌝ }
-{
-    let mut i = 0;
-    while i < ds.len() {
-        if !is_good_diff(ds[i]) {
-            return false;
-        }
-        i += 1;
-    }
-    true
 }
 
 // Whether records ascend strictly by (key, value, time).

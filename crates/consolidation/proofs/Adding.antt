@@ -1,21 +1,20 @@
 -- What the loop that adds up equal entries keeps.
 --
--- zero-test: how the machine tests a diff. same-ties, same-other: how two pairs are compared. ends-more, ends-last: what ends a run of equals
+-- same-ties, same-other: how two pairs are compared. ends-more, ends-last: what ends a run of equals
 -- Adding: the entries from the i-th place on are still to be added up; k are written, and `sum` belongs to the run that begins at i
 -- summed: a sum that went through locals. written-front: cleared after the front
-use Prim.Native.Nat.{ℕ, suc, _≤_, _<_, _+_, _-_, _^_}
+use Prim.Native.Nat.{ℕ, _≤_, _<_, _+_, _-_, _^_}
 use native.Mathlib.Omega.{arith}
 use mathlib.Core.Bool.{Bool, true, false, not}
 use mathlib.Core.List.{List, [], _∷_, _++_, map, append-nil}
 use mathlib.Core.Path.{_≡_, refl, sym, _∙_, ap}
 use lib.Dec.{eqb}
-use lib.IntN.{ℤ, pos, negsuc, natAbs, _+ℤ_}
+use lib.IntN.{ℤ, pos, natAbs, _+ℤ_}
 use lib.ListN.{length, take, drop, getD, replicate, length-set, length-map, drop-of-length-le}
 use lib.Seq.{length-take-le}
 use lib.Signed.{mag}
-use borrow.Author.Tests.{ne-eqb}
 use mir.Syntax.{w64}
-use mir.Val.{SFits, ofZ, toZ}
+use mir.Val.{ofZ, toZ}
 use Rattle.grid.specs.Lists.{padded}
 use Rattle.grid.specs.Consolidate.{isZero}
 use Rattle.grid.proofs.Loops.{put-more, drop-more, map-more}
@@ -27,10 +26,6 @@ use Rattle.consolidation.specs.Entries.{Entry, first, second, diff, entr
 use Rattle.consolidation.proofs.Squash.{key, squash}
 
 -- ---- single diffs and pairs
-pub zero-test : (d : ℤ) → SFits w64 d → eqb (ofZ w64 d) 0 ≡ isZero d
-zero-test (pos n) h = refl
-zero-test (negsuc n) h = ne-eqb (2 ^ 64 - suc n) 0 (λ e. let k : n < 2 ^ 63 = h .sfits in omega arith)
-
 pub summed : {r : ℤ} (a x y : ℤ) → mag r < 2 ^ 63 → r ≡ a +ℤ toZ w64 (ofZ w64 x) → mag x < 2 ^ 63 → x ≡ y → toZ w64 (ofZ w64 r) ≡ a +ℤ y
 summed a x y h e k q = back h ∙ e ∙ ap (λ z. a +ℤ z) (back k ∙ q)
 

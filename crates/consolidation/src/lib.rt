@@ -1,5 +1,7 @@
 // Consolidation of entries that are lent in three columns: ascending by the first two, with the diffs of equal entries added and zeros
 // dropped. An order by (time, value) lends times first, an order by (value, time) values first.
+use diffs::is_zero;
+use diffs::plus;
 use ordering::sort_places;
 use rows::ties;
 use slices::clear_diffs_from;
@@ -11,27 +13,11 @@ use slices::diff_at;
 use slices::entry_at;
 ghost use mathlib.Core.Path.{_≡_};
 ghost use mathlib.Core.List.{map};
-ghost use Prim.Native.Nat.{_<_, _^_};
-ghost use lib.IntN.{_+ℤ_};
+ghost use Prim.Native.Nat.{_<_};
 ghost use lib.ListN.{length, drop};
-ghost use lib.Signed.{mag};
-ghost use Rattle.grid.specs.Consolidate.{isZero};
 ghost use Rattle.slices.specs.Places.{entry};
 ghost use Rattle.distinct.specs.Sets.{endsRun};
 ghost use Rattle.consolidation.specs.Entries.{samePair, pairAt, entryAt, entries, consolidated, sortedPlaces, Ready, Stored, Written, Front, Lent, LentWork, WorkAfter};
-
-fn plus(x: i64, y: i64) -> i64
-    requires { ⌜ mag (x +ℤ y) < 2 ^ 63 ⌝ }
-    ensures { λ r. ⌜ r ≡ x +ℤ y ⌝ }
-{
-    x + y
-}
-
-fn is_zero(x: i64) -> bool
-    ensures { λ r. ⌜ r ≡ isZero x ⌝ }
-{
-    x == 0
-}
 
 fn same_pair(a: &[u64], b: &[u64], i: u64, j: u64) -> bool
     ensures { λ r. ⌜ r ≡ samePair (pairAt (now (a .entry)) (now (b .entry)) i) (pairAt (now (a .entry)) (now (b .entry)) j) ⌝ }

@@ -14,9 +14,10 @@ use borrow.Author.Tests.{eqb-true, eqb-false, eq-eqb, ne-eqb, ltb-true, ltb-fals
 use Rattle.grid.specs.Lists.{insert, sort, padded}
 use Rattle.grid.specs.Times.{put, puts}
 use Rattle.grid.proofs.Tests.{by-test}
-use Rattle.grid.proofs.Lists.{All, nil, cons, all-imp, all-puts}
+use Rattle.grid.proofs.Lists.{nil, cons, all-imp, all-puts}
 use Rattle.grid.proofs.Loops.{put-more, drop-more, ahead-more, ahead-set}
 use Rattle.grid.proofs.Sort.{Sorted, more, ranking-leb, sorted-drop, sorted-is, sorted-sort, sort-sorted, length-sort}
+use Rattle.grid.proofs.Operations.{put-first}
 use Rattle.distinct.specs.Sets.{endsRun, Squeezed, Removed}
 
 module _ {A : Type 0} (same : A → A → Bool) (s : List A) (i : ℕ) (d : A) where
@@ -29,10 +30,6 @@ module _ {A : Type 0} (same : A → A → Bool) (s : List A) (i : ℕ) (d : A) w
   ends-last h k = rw (drop-more s i d h, drop-of-length-le s k)
 
 -- ---- one element of a sorted list more
-put-first : (t : ℕ) {us : List ℕ} → All (λ u. t < u) us → put t us ≡ t ∷ us
-put-first t nil = refl
-put-first t (cons {x = u} h a) = rw (lt-ltb t u h)
-
 put-again : (t : ℕ) (us : List ℕ) → put t (put t us) ≡ put t us
 put-again t [] = rw (le-ltb t t (omega arith), eq-eqb t t refl)
 put-again t (u ∷ us) =

@@ -4,10 +4,10 @@
 -- length-edits: as many as there are times
 -- edits-take: the front of each column. edits-slid: moved down in each column. edits-ahead: edits that agree from a place on have times that do
 -- edits-within, edits-step, edits-step-one: what passes by its time, moved down in each column, is a step of the edits; so is the next one alone
-use Prim.Native.Nat.{ℕ, zero, suc, _+_, _-_, _≤_, _<_}
+use Prim.Native.Nat.{ℕ, suc, _+_, _-_, _≤_, _<_}
 use native.Mathlib.Omega.{arith}
 use mathlib.Core.Bool.{Bool}
-use mathlib.Core.List.{List, [], _∷_, _++_, map}
+use mathlib.Core.List.{List, [], _∷_, _++_, map, map-append}
 use mathlib.Core.Path.{_≡_, refl, sym, _∙_, ap}
 use lib.Dec.{ltb}
 use lib.IntN.{ℤ}
@@ -16,6 +16,7 @@ use lib.Seq.{slice}
 use Rattle.grid.specs.Lists.{front}
 use Rattle.grid.proofs.Tests.{by-test}
 use Rattle.grid.specs.Slices.{laid}
+use Rattle.grid.proofs.Operations.{map-take, map-drop}
 use Rattle.rules.specs.Histories.{Edit, timeOf, valueOf}
 use Rattle.edits.specs.Edits.{edits, Alike}
 use Rattle.histories.specs.Places.{Placed, Steps, StepsOne}
@@ -56,26 +57,12 @@ edits-map (e ∷ es) = ap (λ l. e ∷ l) (edits-map es)
 
 -- ---- what is done to each column alike
 module _ {A B : Type 0} (f : A → B) where
-  map-take : (n : ℕ) (l : List A) → take n (map f l) ≡ map f (take n l)
-  map-take zero l = refl
-  map-take (suc n) [] = refl
-  map-take (suc n) (x ∷ l) = ap (λ r. f x ∷ r) (map-take n l)
-
-  pub map-drop : (n : ℕ) (l : List A) → drop n (map f l) ≡ map f (drop n l)
-  map-drop zero l = refl
-  map-drop (suc n) [] = refl
-  map-drop (suc n) (x ∷ l) = map-drop n l
-
-  pub map-append : (xs ys : List A) → map f xs ++ map f ys ≡ map f (xs ++ ys)
-  map-append [] ys = refl
-  map-append (x ∷ xs) ys = ap (λ l. f x ∷ l) (map-append xs ys)
-
   map-laid : (xs s : List A) → laid (map f xs) (map f s) ≡ map f (laid xs s)
   unfolding laid
-  map-laid xs s = rw (length-map s f, length-map xs f, map-drop (length xs) s, map-append xs (drop (length xs) s)) (map-take (length s) (xs ++ drop (length xs) s))
+  map-laid xs s = rw (length-map s f, length-map xs f, ← map-drop f (length xs) s, ← map-append f xs (drop (length xs) s)) (sym (map-take f (length s) (xs ++ drop (length xs) s)))
 
   map-slid : (s : List A) (count at to : ℕ) → slid (map f s) count at to ≡ map f (slid s count at to)
-  map-slid s count at to = rw (map-take count s, map-take to s, map-drop at (take to s), map-append (take count s) (slice at to s)) (map-laid (take count s ++ slice at to s) s)
+  map-slid s count at to = rw (← map-take f count s, ← map-take f to s, ← map-drop f at (take to s), ← map-append f (take count s) (slice at to s)) (map-laid (take count s ++ slice at to s) s)
 
   front-map : (q : B → Bool) (l : List A) → length (front q (map f l)) ≡ length (front (λ x. q (f x)) l)
   front-map q [] = refl
@@ -89,7 +76,7 @@ module _ (ts vs : List ℕ) (ds : List ℤ) (a : Alike ts vs ds) where
   edits-take n =
       let es = edits ts vs ds in
       (λ i. edits (take n (sym (times-edits ts vs ds a) i)) (take n (sym (values-edits ts vs ds a) i)) (take n (sym (diffs-edits ts vs ds a) i)))
-      ∙ (λ i. edits (map-take timeOf n es i) (map-take valueOf n es i) (map-take diffOf n es i))
+      ∙ (λ i. edits (sym (map-take timeOf n es) i) (sym (map-take valueOf n es) i) (sym (map-take diffOf n es) i))
       ∙ edits-map (take n es)
 
   pub edits-slid : {ts′ vs′ : List ℕ} {ds′ : List ℤ} (count at to : ℕ) → ts′ ≡ slid ts count at to → vs′ ≡ slid vs count at to → ds′ ≡ slid ds count at to → edits ts′ vs′ ds′ ≡ slid (edits ts vs ds) count at to
@@ -101,12 +88,12 @@ module _ (ts vs : List ℕ) (ds : List ℤ) (a : Alike ts vs ds) where
       ∙ edits-map (slid es count at to)
 
   edits-end : (q : ℕ → Bool) (at : ℕ) {to : ℕ} → to ≡ at + length (front q (drop at ts)) → to ≡ at + length (front (λ e. q (timeOf e)) (drop at (edits ts vs ds)))
-  edits-end q at e = e ∙ ap (λ l. at + length (front q (drop at l))) (sym (times-edits ts vs ds a)) ∙ ap (λ l. at + length (front q l)) (map-drop timeOf at (edits ts vs ds)) ∙ ap (λ n. at + n) (front-map timeOf q (drop at (edits ts vs ds)))
+  edits-end q at e = e ∙ ap (λ l. at + length (front q (drop at l))) (sym (times-edits ts vs ds a)) ∙ ap (λ l. at + length (front q l)) (sym (map-drop timeOf at (edits ts vs ds))) ∙ ap (λ n. at + n) (front-map timeOf q (drop at (edits ts vs ds)))
 
   pub edits-ahead : {ts′ vs′ : List ℕ} {ds′ : List ℤ} (i : ℕ) → Alike ts′ vs′ ds′ → drop i (edits ts′ vs′ ds′) ≡ drop i (edits ts vs ds) → drop i ts′ ≡ drop i ts
   edits-ahead {ts′} {vs′} {ds′} i b e =
-      ap (drop i) (sym (times-edits ts′ vs′ ds′ b)) ∙ map-drop timeOf i (edits ts′ vs′ ds′) ∙ ap (map timeOf) e
-      ∙ sym (map-drop timeOf i (edits ts vs ds)) ∙ ap (drop i) (times-edits ts vs ds a)
+      ap (drop i) (sym (times-edits ts′ vs′ ds′ b)) ∙ sym (map-drop timeOf i (edits ts′ vs′ ds′)) ∙ ap (map timeOf) e
+      ∙ map-drop timeOf i (edits ts vs ds) ∙ ap (drop i) (times-edits ts vs ds a)
 
   -- ---- a step
   module _ (p : Place) (w : Placed (length ts) p) where

@@ -6,7 +6,7 @@ use Prim.Native.Nat.{ℕ, zero, suc, _-_, _≤_}
 use native.Mathlib.Nat.{sub-zero}
 use native.Mathlib.Omega.{arith}
 use mathlib.Core.Bool.{Bool, true, false, cond}
-use mathlib.Core.List.{List, [], _∷_, _++_, map, append-nil, append-assoc}
+use mathlib.Core.List.{List, [], _∷_, _++_, map, append-nil, append-assoc, map-append}
 use mathlib.Core.Option.{Option, none, some}
 use mathlib.Core.Path.{_≡_, refl, sym, _∙_, ap}
 use lib.IntN.{ℤ}
@@ -15,12 +15,13 @@ use lib.Seq.{length-take-le, take-at, drop-at}
 use Rattle.grid.specs.Lists.{padded}
 use Rattle.grid.specs.Times.{joined}
 use Rattle.grid.proofs.Sizes.{sizing-one, mass-one}
+use Rattle.grid.proofs.Operations.{map-drop}
 use Rattle.consolidation.specs.Entries.{sortedPlaces, Front, Lent, LentWork}
 use Rattle.rules.specs.Histories.{Edit, timeOf, valueOf, loadEdits, advanceEdits}
 use Rattle.rules.proofs.Wave.{load-mass, advance-mass}
 use Rattle.edits.specs.Edits.{edits, Alike}
 use Rattle.edits.specs.Buffers.{noEdit, LoadsAll, LoadsEdits, LentLoad, alreadySettled, WorkAfter, AdvancesAll, AdvancesEdits, LentBuffer}
-use Rattle.edits.proofs.Edits.{diffOf, times-edits, values-edits, diffs-edits, length-edits, edits-map, map-drop, map-append, edits-take}
+use Rattle.edits.proofs.Edits.{diffOf, times-edits, values-edits, diffs-edits, length-edits, edits-map, edits-take}
 
 -- ---- the front of three columns
 module _ {B : Type 0} (f : Edit → B) where
@@ -29,10 +30,10 @@ module _ {B : Type 0} (f : Edit → B) where
   map-fill (suc n) = ap (λ l. f noEdit ∷ l) (map-fill n)
 
   map-padded : (n : ℕ) (es : List Edit) → padded (f noEdit) n (map f es) ≡ map f (padded noEdit n es)
-  map-padded n es = rw (length-map es f, map-fill (n - length es)) (map-append f es (replicate (n - length es) noEdit))
+  map-padded n es = rw (length-map es f, map-fill (n - length es)) (sym (map-append f es (replicate (n - length es) noEdit)))
 
   column-front : (n : ℕ) (es cols : List Edit) {x col : List B} → x ≡ padded (f noEdit) n (map f es) → map f cols ≡ col → x ++ drop (n - 0) col ≡ map f (padded noEdit n es ++ drop n cols)
-  column-front n es cols p q = rw (sub-zero, ← q, map-drop f n cols, p, map-padded n es) (map-append f (padded noEdit n es) (drop n cols))
+  column-front n es cols p q = rw (sub-zero, ← q, ← map-drop f n cols, p, map-padded n es) (sym (map-append f (padded noEdit n es) (drop n cols)))
 
   column-take : (n : ℕ) (es : List Edit) {x : List B} (rest : List B) → length es ≤ n → x ≡ padded (f noEdit) n (map f es) → take n (x ++ rest) ≡ x
   column-take n es {x} rest h p = take-at x rest n (rw (p, length-append, length-replicate, length-map es f) (omega arith))

@@ -1,11 +1,10 @@
 -- Edits that are consolidated already: their consolidation is themselves.
 --
--- before-first, before-not, before-second: what decides which of two pairs is before the other
 -- zero-read: a diff that was read from a column, and tested
 -- key-at: the key of the edit at a place, from the columns. length-keys: as many as there are times
 -- order-yes, order-no: the two tests make one
 -- advance-consolidated: a consolidated buffer consolidates to itself
-use Prim.Native.Nat.{ℕ, zero, suc, _≤_, _<_, _^_}
+use Prim.Native.Nat.{ℕ, zero, suc, _<_, _^_}
 use native.Mathlib.Omega.{arith}
 use mathlib.Core.Bool.{Bool, true, false, _&&_, not}
 use mathlib.Core.List.{List, [], _∷_, map}
@@ -16,7 +15,7 @@ use lib.ListN.{length, getD, length-map}
 use lib.Signed.{mag}
 use mir.Syntax.{w64}
 use mir.Val.{toZ, ofZ}
-use borrow.Author.Tests.{lt-ltb, le-ltb, not-true}
+use borrow.Author.Tests.{not-true}
 use Rattle.grid.specs.Consolidate.{isZero, lex, consolidate}
 use Rattle.grid.specs.Lists.{every, ascending}
 use Rattle.grid.proofs.Tests.{and-l, and-r}
@@ -28,16 +27,6 @@ use Rattle.rules.specs.Histories.{Edit, byValue}
 use Rattle.rules.proofs.Histories.{strict-byValue}
 use Rattle.edits.specs.Edits.{edits, Alike, keyOf, isConsolidated}
 use Rattle.edits.proofs.Edits.{length-edits, diffOf, diffs-edits}
-
-module _ (a b c d : ℕ) where
-  pub before-first : a < c → true ≡ lex ltb ltb (a, b) (c, d)
-  before-first h = rw (lt-ltb a c h)
-
-  pub before-not : c < a → false ≡ lex ltb ltb (a, b) (c, d)
-  before-not h = rw (le-ltb a c (omega arith), lt-ltb c a h)
-
-  pub before-second : c ≤ a → a ≤ c → ltb b d ≡ lex ltb ltb (a, b) (c, d)
-  before-second h k = rw (le-ltb a c h, le-ltb c a k)
 
 pub zero-read : (z : ℤ) {b t : Bool} → mag z < 2 ^ 63 → b ≡ isZero (toZ w64 (ofZ w64 z)) → b ≡ t → not (isZero z) ≡ not t
 zero-read z h e f = ap not (sym (ap isZero (back {z = z} h)) ∙ sym e ∙ f)

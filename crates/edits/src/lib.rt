@@ -2,10 +2,10 @@
 // columns, as a TimeHistory and its buffer share one.
 mod buffer;
 mod order;
-mod steps;
+mod stepping;
 
 pub use buffer::advance_buffer_by;
 pub use buffer::load_edits;
-pub use steps::step;
-pub use steps::step_through;
-pub use steps::step_while_time_is;
+pub use stepping::step;
+pub use stepping::step_through;
+pub use stepping::step_while_time_is;

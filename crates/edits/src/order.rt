@@ -1,25 +1,13 @@
 // Whether edits are consolidated already, as a buffer is.
+use diffs::is_zero;
+use rows::pair_before;
 ghost use mathlib.Core.Bool.{not};
 ghost use mathlib.Core.List.{map};
 ghost use mathlib.Core.Path.{_≡_};
-ghost use lib.Dec.{ltb};
-ghost use Rattle.grid.specs.Consolidate.{isZero, lex};
+ghost use Rattle.grid.specs.Consolidate.{isZero};
 ghost use Rattle.grid.specs.Lists.{every, ascending};
 ghost use Rattle.rules.specs.Histories.{byValue};
 ghost use Rattle.edits.specs.Edits.{edits, Alike, keyOf, isConsolidated};
-
-// Whether the pair (a, b) is before the pair (c, d).
-fn pair_before(a: u64, b: u64, c: u64, d: u64) -> bool
-    ensures { λ r. ⌜ r ≡ lex ltb ltb (a, b) (c, d) ⌝ }
-{
-    if a < c {
-        return true;
-    }
-    if c < a {
-        return false;
-    }
-    b < d
-}
 
 // Whether the edits ascend strictly by (value, time).
 fn ascend_by_value(times: &[u64], values: &[u64], diffs: &[i64]) -> bool
@@ -35,12 +23,6 @@ fn ascend_by_value(times: &[u64], values: &[u64], diffs: &[i64]) -> bool
         }
     }
     true
-}
-
-fn is_zero(d: i64) -> bool
-    ensures { λ r. ⌜ r ≡ isZero d ⌝ }
-{
-    d == 0
 }
 
 // Whether no diff is zero.

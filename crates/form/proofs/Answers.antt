@@ -14,7 +14,7 @@ use lib.IntN.{ℤ, pos, _+ℤ_, natAbs}
 use lib.ListN.{length, take, drop, length-append, length-map, take-append-drop}
 use borrow.Author.Tests.{eqb-true, eqb-false, ltb-true, leb-true, not-false}
 use Rattle.grid.specs.Lists.{keep, ascending, same}
-use Rattle.grid.specs.Times.{below, put, puts}
+use Rattle.grid.specs.Times.{below, puts}
 use Rattle.grid.specs.Frontiers.{isFrontier, allInserted, minimal}
 use Rattle.grid.specs.Consolidate.{isZero, total}
 use Rattle.grid.specs.Records.{Row, before, inRange, goodDiff, goodRun}
@@ -25,6 +25,7 @@ use Rattle.grid.proofs.Signed.{natAbs-add}
 use Rattle.grid.proofs.Sort.{length-sort}
 use Rattle.grid.proofs.Sizes.{sizing-natAbs, mass, mass-map, mass-most, mass-consolidate}
 use Rattle.grid.proofs.Consolidate.{strict-ltb, all-consolidate}
+use Rattle.grid.proofs.Operations.{put-length}
 use Rattle.rules.specs.Histories.{Edit, timeOf, valueOf}
 use Rattle.rules.specs.Tiles.{Tile, tiles}
 use Rattle.rules.specs.Discover.{mostMoments}
@@ -230,11 +231,6 @@ tile-fits t w n = record {
 }
 
 -- ---- crossings
-put-length : (t : ℕ) (us : List ℕ) → length (put t us) ≤ suc (length us)
-put-length t [] = omega arith
-put-length t (u ∷ us) =
-    by-test (ltb t u) (λ e. rw e (omega arith)) (λ e. by-test (eqb t u) (λ e′. rw (e, e′) (omega arith)) (λ e′. rw (e, e′) (omega (arith, put-length t us))))
-
 puts-length : (ts us : List ℕ) → length (puts ts us) ≤ length ts + length us
 puts-length [] us = omega arith
 puts-length (t ∷ ts) us = omega (arith, put-length t (puts ts us), puts-length ts us)

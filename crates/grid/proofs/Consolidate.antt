@@ -91,7 +91,7 @@ pub share-plus : (b : Bool) (c d s : ℤ) → cond b (c +ℤ d) (pos 0) +ℤ s �
 share-plus true c d s = +ℤ-assoc c d s
 share-plus false c d s = simp +ℤ-idl
 
-zero-share : (b : Bool) (s : ℤ) → s ≡ cond b (pos 0) (pos 0) +ℤ s
+pub zero-share : (b : Bool) (s : ℤ) → s ≡ cond b (pos 0) (pos 0) +ℤ s
 zero-share true s = sym (+ℤ-idl s)
 zero-share false s = sym (+ℤ-idl s)
 

@@ -24,6 +24,7 @@ use Rattle.grid.specs.Times.{below, put}
 use Rattle.grid.specs.Frontiers.{beyond, comparable, antichain, inserted, allInserted, minimal}
 use Rattle.grid.proofs.Tests.{by-test, clash, same-test, and-l, and-r, and-i, or-l, or-r, or-false-l, or-false-r}
 use Rattle.grid.proofs.Lists.{All, nil, cons, head, tail, all-of, all-imp, all-at, every-all, all-every, keep-length, all-keep, kept-all, keep-all, all-put, put-all, all-both, none-all, any-none}
+use Rattle.grid.proofs.Operations.{put-length}
 use Rattle.grid.proofs.Times.{Below, below-true, true-below, below-trans, below-refl, below-antisym, below-le}
 
 pub short-down : (f : List ℕ) (s t : ℕ) → Below s t → beyond f t ≡ false → beyond f s ≡ false
@@ -144,11 +145,6 @@ inserted-beyond t f s =
     by-test (beyond f t)
     (λ e. rw e (by-test (below t s) (λ b. rw (b, beyond-up f t s (below-true t s b) e)) (λ b. rw b)))
     (λ e. rw e (put-beyond t f s))
-
-put-length : (t : ℕ) (us : List ℕ) → length (put t us) ≤ suc (length us)
-put-length t [] = omega arith
-put-length t (u ∷ us) =
-    by-test (ltb t u) (λ e. rw e (omega arith)) (λ e. by-test (eqb t u) (λ e′. rw (e, e′) (omega arith)) (λ e′. rw (e, e′) (omega (arith, put-length t us))))
 
 pub inserted-length : (t : ℕ) (f : List ℕ) → length (inserted t f) ≤ suc (length f)
 unfolding inserted

@@ -1,5 +1,6 @@
 pub mod Tests
 pub mod Lists
+pub mod Operations
 pub mod Loops
 pub mod Slices
 pub mod Sort

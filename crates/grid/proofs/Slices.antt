@@ -20,8 +20,8 @@ use Rattle.grid.proofs.Loops.{put-more, drop-more, ahead-set, ahead-get
 use Rattle.grid.specs.Slices.{laid, Laid}
 
 module _ {A : Type 0} where
-  ahead-to : (s s₀ : List A) (k i : ℕ) → k ≤ i → drop k s ≡ drop k s₀ → drop i s ≡ drop i s₀
-  ahead-to s s₀ k i h e =
+  pub drop-later : (s s₀ : List A) (k i : ℕ) → k ≤ i → drop k s ≡ drop k s₀ → drop i s ≡ drop i s₀
+  drop-later s s₀ k i h e =
       let n : k + (i - k) ≡ i = omega arith in
       ap (λ m. drop m s) (sym n) ∙ sym (drop-drop (i - k) k s) ∙ ap (drop (i - k)) e ∙ drop-drop (i - k) k s₀ ∙ ap (λ m. drop m s₀) n
 
@@ -50,7 +50,7 @@ module _ {A : Type 0} where
   laid-twice {xs} {ys} {s} {s₁} {s₂} {k} {r} a b h f =
       let l : length s₁ ≡ length s = ap length (a .holds) ∙ laid-length xs s in
       let k≤r : k ≤ r = omega (arith, a .counted, b .counted) in
-      let ahead : drop r s₁ ≡ drop r s = ahead-to s₁ s k r k≤r (laid-back a (omega arith)) in
+      let ahead : drop r s₁ ≡ drop r s = drop-later s₁ s k r k≤r (laid-back a (omega arith)) in
       laid-from ys s s₂ r (omega (arith, b .counted)) (ap length (b .holds) ∙ laid-length ys s₁ ∙ l) (laid-front b (omega arith)) (laid-back b (omega arith) ∙ ahead)
 
 -- a single element
@@ -85,7 +85,7 @@ module _ {A : Type 0} where
         }
 
     laying-read : (i : ℕ) (d : A) → k ≤ i → getD s i d ≡ getD s₀ i d
-    laying-read i d h = ahead-getD s s₀ i d (ahead-to s s₀ k i h (w .ahead))
+    laying-read i d h = ahead-getD s s₀ i d (drop-later s s₀ k i h (w .ahead))
 
     -- what is still to be read of the first `count`
     pub laying-next : (i count : ℕ) (d : A) → k ≤ i → i < count → count ≤ length s → drop i (take count s₀) ≡ getD s i d ∷ drop (i + 1) (take count s₀)

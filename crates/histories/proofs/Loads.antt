@@ -19,6 +19,11 @@ use Rattle.grid.proofs.Slices.{laid-fits, laid-front, laid-back}
 use Rattle.rules.specs.Histories.{loadTimes}
 use Rattle.histories.specs.Loads.{Loads}
 
+pub map-same : (xs : List ℕ) → map (joined none) xs ≡ xs
+unfolding joined
+map-same [] = refl
+map-same (x ∷ xs) = ap (λ r. x ∷ r) (map-same xs)
+
 module _ {o : Option ℕ} (src dst : List ℕ) {dst′ : List ℕ} where
   pub copied-some : (p : ℕ) → o ≡ some p → dst′ ≡ laid (map (join p) src) dst → dst′ ≡ laid (map (joined o) src) dst
   unfolding joined
@@ -27,10 +32,6 @@ module _ {o : Option ℕ} (src dst : List ℕ) {dst′ : List ℕ} where
   pub copied-none : o ≡ none → length src ≤ length dst → dst′ ≡ src ++ drop (length src) dst → dst′ ≡ laid (map (joined o) src) dst
   unfolding joined
   copied-none e l h = h ∙ sym (laid-fits src dst l) ∙ ap (λ xs. laid xs dst) (sym (rw e (map-same src)))
-    where
-      map-same : (xs : List ℕ) → map (joined none) xs ≡ xs
-      map-same [] = refl
-      map-same (x ∷ xs) = ap (λ r. x ∷ r) (map-same xs)
 
 pub loads : (o : Option ℕ) (src : List ℕ) (ts ws : List ℕ) {ts₁ x y : List ℕ} → length src ≤ length ts → length src ≤ length ws → ts₁ ≡ laid (map (joined o) src) ts → Done leb (take (length src - 0) ts₁) x y
     → Loads (loadTimes o src) ts ws (x ++ drop (length src - 0) ts₁) (y ++ drop (length src - 0) ws)

@@ -5,7 +5,6 @@
 -- slid-none: nothing moves where the buffer reaches what is ahead
 -- slid: a column whose entries from `at` up to `to` were moved down to `count`
 -- front-take, past-drop: the front of a list and what follows it, by the front's length
--- drop-later: lists that agree from a place on agree from any later one on
 -- steps-within, steps: what passes, moved to the buffer, is a step. steps-one: so is the next entry alone
 use Prim.Native.Nat.{ℕ, suc, _+_, _-_, _≤_, _<_}
 use native.Mathlib.Omega.{arith}
@@ -20,7 +19,8 @@ use Rattle.grid.specs.Lists.{front, past, isEmpty}
 use Rattle.grid.proofs.Tests.{by-test}
 use Rattle.grid.proofs.Loops.{drop-more}
 use Rattle.grid.specs.Slices.{laid, Laid}
-use Rattle.grid.proofs.Slices.{Laying, laying-more, laying-next, laying-end, laid-fits, laid-front, laid-back}
+use Rattle.grid.proofs.Slices.{Laying, laying-more, laying-next, laying-end, laid-fits, laid-front, laid-back, drop-later}
+use Rattle.grid.proofs.Operations.{front-fits}
 use Rattle.rules.specs.Histories.{Edit, stepped, moved}
 use Rattle.rules.specs.Wave.{stepOne}
 use Rattle.histories.specs.Places.{historyOf, Placed, Steps, StepsOne}
@@ -94,10 +94,6 @@ module _ {A : Type 0} (p : A → Bool) where
   past-drop [] = refl
   past-drop (x ∷ xs) = by-test (p x) (λ e. rw e (past-drop xs)) (λ e. rw e)
 
-  front-fits : (xs : List A) → length (front p xs) ≤ length xs
-  front-fits [] = omega arith
-  front-fits (x ∷ xs) = by-test (p x) (λ e. let h = front-fits xs in rw e (omega arith)) (λ e. rw e (omega arith))
-
   some-moved : (xs : List A) → ltb 0 (length (front p xs)) ≡ moved p xs
   unfolding moved
   some-moved xs = go (front p xs)
@@ -110,11 +106,6 @@ module _ {A : Type 0} (p : A → Bool) where
 module _ {A : Type 0} where
   slice-take : (l : List A) (at n : ℕ) → at ≤ length l → slice at (at + n) l ≡ take n (drop at l)
   slice-take l at n h = ap (drop at) (take-add at n l) ∙ drop-at (take at l) (take n (drop at l)) at (length-take-le at l h)
-
-  pub drop-later : (s s₀ : List A) (k i : ℕ) → k ≤ i → drop k s ≡ drop k s₀ → drop i s ≡ drop i s₀
-  drop-later s s₀ k i h e =
-      let n : k + (i - k) ≡ i = omega arith in
-      ap (λ m. drop m s) (sym n) ∙ sym (drop-drop (i - k) k s) ∙ ap (drop (i - k)) e ∙ drop-drop (i - k) k s₀ ∙ ap (λ m. drop m s₀) n
 
 -- ---- a step
 module _ {A : Type 0} (col : List A) (p : Place) {to : ℕ} (w : Placed (length col) p) (f : p .at ≤ to) (g : to ≤ length col) {col′ : List A} (s : col′ ≡ slid col (p .count) (p .at) to) where

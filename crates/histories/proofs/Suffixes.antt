@@ -13,9 +13,8 @@ use lib.ListN.{length, take, drop, getD, set, length-set, drop-of-length-le, Lis
 use lib.Seq.{drop-cons, drop-set-lt, getD-set-same, slice-cons, length-take-le}
 use Rattle.grid.specs.Times.{meetOnto, meets}
 use Rattle.grid.specs.Slices.{laid}
-use Rattle.grid.proofs.Slices.{laid-fits, laid-length}
+use Rattle.grid.proofs.Slices.{laid-fits, laid-length, drop-later}
 use Rattle.rules.specs.Histories.{suffixMeets}
-use Rattle.histories.proofs.Steps.{drop-later}
 use Rattle.histories.specs.Suffixes.{firstOf, Suffixes}
 
 pub length-suffixMeets : (ts : List ℕ) → length (suffixMeets ts) ≡ length ts

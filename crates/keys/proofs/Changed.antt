@@ -10,7 +10,7 @@ use mathlib.Core.Path.{_≡_, refl, sym, _∙_, ap}
 use lib.Dec.{eqb, leb, ltb}
 use lib.ListN.{length, drop, getD, set, length-drop, drop-of-length-le}
 use lib.Seq.{drop-drop}
-use borrow.Author.Tests.{eqb-true, eq-eqb, ne-eqb, ltb-true, ltb-false, lt-ltb, le-ltb, leb-true}
+use borrow.Author.Tests.{eqb-true, eq-eqb, ne-eqb, ltb-true, ltb-false, le-ltb, leb-true}
 use Rattle.grid.specs.Lists.{front, past}
 use Rattle.grid.specs.Times.{put, puts}
 use Rattle.grid.specs.Slices.{Laid}
@@ -19,9 +19,10 @@ use Rattle.grid.proofs.Lists.{All, nil, cons, all-imp, all-puts}
 use Rattle.grid.proofs.Loops.{drop-more}
 use Rattle.grid.proofs.Slices.{Laying, laying-start, laying-more, laying-end}
 use Rattle.grid.proofs.Sort.{Sorted, none, more, sorted-drop}
+use Rattle.grid.proofs.Operations.{puts-append, put-first, front-fits}
 use Rattle.rules.proofs.Order.{past-above, front-past, front-passes}
 use Rattle.histories.proofs.Steps.{past-drop}
-use Rattle.keys.proofs.Spans.{front-fits, sorted-rising}
+use Rattle.keys.proofs.Spans.{sorted-rising}
 use Rattle.keys.specs.Changed.{lesserHead, LentKeys}
 
 -- ---- the lesser head
@@ -58,14 +59,6 @@ head-stands (x ∷ xs) (y ∷ ys) h =
     (λ e. let q : min x y ≡ x = omega (arith, ltb-false y x e) in rw (eq-eqb (min x y) x q) (omega arith))
 
 -- ---- sets of keys
-puts-append : (xs ys us : List ℕ) → puts (xs ++ ys) us ≡ puts xs (puts ys us)
-puts-append [] ys us = refl
-puts-append (x ∷ xs) ys us = ap (put x) (puts-append xs ys us)
-
-put-first : (x : ℕ) {us : List ℕ} → All (λ u. x < u) us → put x us ≡ x ∷ us
-put-first x nil = refl
-put-first x (cons {x = u} h a) = rw (lt-ltb x u h)
-
 put-there : (x y : ℕ) (us : List ℕ) → eqb x y ≡ true → put y (x ∷ us) ≡ x ∷ us
 put-there x y us e = let q : x ≡ y = eqb-true x y e in rw (le-ltb y x (omega arith), eq-eqb y x (sym q))
 

@@ -24,10 +24,11 @@ use Rattle.grid.proofs.Lists.{All, nil, cons, all-imp, all-append, all-map, all
 use Rattle.grid.proofs.Consolidate.{Strict, strict-lex, strict-ltb}
 use Rattle.grid.proofs.Ascending.{ascending-above, ascending-rest}
 use Rattle.grid.proofs.Sort.{Ranking, ranking-strict, Sorted, none, more, sorted-sort}
+use Rattle.grid.proofs.Operations.{pairs-keys}
 use Rattle.consolidation.specs.Entries.{mass, mostMass}
 use Rattle.rules.specs.Call.{Request, together, changed}
 use Rattle.keys.specs.Spans.{Level}
-use Rattle.keys.proofs.Spans.{keyOf, valueOf, diffOf, rows-keys, pairs-keys}
+use Rattle.keys.proofs.Spans.{keyOf, valueOf, diffOf, rows-keys}
 
 abbrev pub Ranked : List Row → Type 0
 Ranked rs = Sorted (λ r s. not (before s r)) rs

@@ -1,18 +1,17 @@
 -- A key's part of a run is the part that has this key.
 --
--- front-fits: the front of a list is no longer than the list
 -- reaches-start, reaches-on: a search may begin at 0; and, for a greater key, where the part of the last one ends
 -- spans-within: the part lies within the run. keep-part: it holds the entries that have the key
 -- times-part, values-part, diffs-part, edits-part, pending-part: so do the parts of the columns of a run, and of a pending list
 -- times-of: a key's times in a run are those of the pairs of its keys and times
-use Prim.Native.Nat.{ℕ, zero, suc, _+_, _-_, _≤_, _<_}
+use Prim.Native.Nat.{ℕ, _+_, _-_, _≤_, _<_}
 use native.Mathlib.Omega.{arith}
 use mathlib.Core.Bool.{Bool, true}
 use mathlib.Core.List.{List, [], _∷_, _++_, map, append-nil}
 use mathlib.Core.Path.{_≡_, refl, sym, _∙_, ap}
 use lib.Dec.{eqb, leb, ltb}
 use lib.IntN.{ℤ}
-use lib.ListN.{length, take, drop, length-append, length-drop, take-append-drop}
+use lib.ListN.{length, take, drop, length-drop, take-append-drop}
 use lib.Seq.{drop-drop, take-add}
 use borrow.Author.Tests.{eqb-true, ne-eqb, ltb-true, ltb-false, leb-true}
 use Rattle.grid.specs.Lists.{keep, front, past}
@@ -20,20 +19,16 @@ use Rattle.grid.specs.Records.{Row, rows, pairs}
 use Rattle.grid.proofs.Tests.{by-test}
 use Rattle.grid.proofs.Lists.{All, nil, cons, all-imp, all-append, map-all, keep-none, keep-each}
 use Rattle.grid.proofs.Sort.{Sorted, none, more, sorted-drop}
+use Rattle.grid.proofs.Operations.{no-length, keep-append, front-fits, map-take, map-drop, pairs-keys, pairs-times}
 use Rattle.rules.specs.Histories.{Edit}
 use Rattle.rules.specs.Call.{editsOf, timesOf, pendingOf}
-use Rattle.rules.proofs.Order.{Rising, empty, then, past-above, front-past, front-passes}
+use Rattle.rules.proofs.Order.{Rising, empty, then, past-above, front-passes}
 use Rattle.histories.proofs.Steps.{front-take, past-drop}
 use Rattle.edits.specs.Edits.{edits}
 use Rattle.backends.specs.Crossing.{part}
-use Rattle.backends.proofs.Columns.{map-drop, less, no-length}
+use Rattle.backends.proofs.Columns.{less}
 use Rattle.keys.specs.Spans.{Reaches, Spans, Within, Level}
 use Rattle.keys.specs.declared.Span.{Span}
-
-pub front-fits : (p : ℕ → Bool) (l : List ℕ) → length (front p l) ≤ length l
-front-fits p l =
-    let e : length (front p l ++ past p l) ≡ length l = ap length (front-past p l) in
-    omega (arith, length-append (front p l) (past p l))
 
 pub sorted-rising : {l : List ℕ} → Sorted leb l → Rising l
 sorted-rising none = empty
@@ -97,18 +92,9 @@ module _ {keys : List ℕ} {start k : ℕ} {s : Span} (r : Reaches keys start k)
       }
 
 -- ---- entries that have a key
-keep-append : {A : Type 0} (p : A → Bool) (xs ys : List A) → keep p (xs ++ ys) ≡ keep p xs ++ keep p ys
-keep-append p [] ys = refl
-keep-append p (x ∷ xs) ys = by-test (p x) (λ e. rw (e, keep-append p xs ys)) (λ e. rw (e, keep-append p xs ys))
-
 module _ {A B : Type 0} (f : A → B) where
-  map-take : (n : ℕ) (l : List A) → map f (take n l) ≡ take n (map f l)
-  map-take zero l = refl
-  map-take (suc n) [] = refl
-  map-take (suc n) (x ∷ l) = ap (λ r. f x ∷ r) (map-take n l)
-
   pub map-part : (a b : ℕ) (l : List A) → map f (part a b l) ≡ part a b (map f l)
-  map-part a b l = map-take (b - a) (drop a l) ∙ ap (take (b - a)) (map-drop f a l)
+  map-part a b l = map-take f (b - a) (drop a l) ∙ ap (take (b - a)) (map-drop f a l)
 
 module _ {A : Type 0} (key : A → ℕ) (l : List A) {keys : List ℕ} {start k : ℕ} {s : Span} (q : map key l ≡ keys) (r : Reaches keys start k) (e : Spans keys start k s) where
   pub keep-part : part (s .from) (s .to) l ≡ keep (λ x. eqb k (key x)) l
@@ -210,17 +196,6 @@ module _ {ks vs ts : List ℕ} {ds : List ℤ} (l : Level ks vs ts ds) where
         ∙ edits-rows (keep (λ x. eqb k (x .key)) (rows ks vs ts ds))
 
 -- ---- the columns of a pending list
-pub pairs-keys : (ks ts : List ℕ) → length ts ≡ length ks → map (λ (p : ℕ × ℕ). p .0) (pairs ks ts) ≡ ks
-pairs-keys [] ts e = refl
-pairs-keys (k ∷ ks) [] e = no-length (length ks) (sym e)
-pairs-keys (k ∷ ks) (t ∷ ts) e = ap (λ l. k ∷ l) (pairs-keys ks ts (less e))
-
-pairs-times : (ks ts : List ℕ) → length ts ≡ length ks → map (λ (p : ℕ × ℕ). p .1) (pairs ks ts) ≡ ts
-pairs-times [] [] e = refl
-pairs-times [] (t ∷ ts) e = no-length (length ts) e
-pairs-times (k ∷ ks) [] e = no-length (length ks) (sym e)
-pairs-times (k ∷ ks) (t ∷ ts) e = ap (λ l. t ∷ l) (pairs-times ks ts (less e))
-
 pub pending-part : (ks ts : List ℕ) → length ts ≡ length ks → {start k : ℕ} {s : Span} → Reaches ks start k → Spans ks start k s → part (s .from) (s .to) ts ≡ pendingOf k (pairs ks ts)
 unfolding pendingOf
 pending-part ks ts l {s = s} r e =

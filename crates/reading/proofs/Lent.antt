@@ -11,7 +11,8 @@ use lib.ListN.{length, take, replicate, length-map}
 use lib.Seq.{take-append-seam}
 use borrow.Author.Tests.{eq-eqb}
 use Rattle.grid.specs.Lists.{padded}
-use Rattle.grid.specs.Records.{Row, Columns, rows, pairs}
+use Rattle.grid.specs.Records.{Row, Columns, rows}
+use Rattle.grid.proofs.Operations.{pairs-columns}
 use Rattle.rules.specs.Call.{Request, call}
 use Rattle.rules.specs.Memory.{Memory, Sizes, Lent, alike, roomy, lentWell, rowsOf, requestOf, callLent}
 use Rattle.rules.proofs.Memory.{lent-well}
@@ -41,10 +42,6 @@ rows-back : (rs : List Row) → rows (map (λ r. r .key) rs) (map (λ r. r .valu
 rows-back [] = refl
 rows-back (r ∷ rs) = ap (λ l. r ∷ l) (rows-back rs)
 
-pairs-back : (ps : List (ℕ × ℕ)) → pairs (map (λ p. p .0) ps) (map (λ p. p .1) ps) ≡ ps
-pairs-back [] = refl
-pairs-back (p ∷ ps) = ap (λ l. p ∷ l) (pairs-back ps)
-
 columns-alike : (rs : List Row) → alike (columnsOf rs) ≡ true
 unfolding alike
 columns-alike rs = simp length-map (rw (eq-eqb (length rs) (length rs) refl))
@@ -63,7 +60,7 @@ request-lent q m = λ i. record {
   old = rows-back (q .old) i;
   new = rows-back (q .new) i;
   out = rows-back (q .out) i;
-  pending = pairs-back (q .pending) i;
+  pending = pairs-columns (q .pending) i;
 }
 
 pub call-lent : (z : Sizes) (q : Request) (m : Memory) → roomy z m ≡ true → callLent z (lentOf q m) ≡ call q

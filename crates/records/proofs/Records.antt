@@ -17,6 +17,7 @@ use Rattle.form.specs.Text.{ascii}
 use Rattle.form.specs.Read.{mostLines, Reader, word, ending, number, max64, signed, time, theRow, row, pair, line, many, sections}
 use Rattle.grid.specs.Lists.{padded}
 use Rattle.grid.specs.Records.{Row as ARow}
+use Rattle.grid.proofs.Operations.{drop-zeros}
 use Rattle.times.specs.declared.time.KeyHash.{KeyHash}
 use Rattle.times.specs.declared.time.PackedTime.{PackedTime}
 use Rattle.times.specs.declared.time.ValueId.{ValueId}
@@ -300,11 +301,6 @@ module _ {s : List ℕ} {p : Reader (ℕ × ℕ)} {from most : ℕ} {ks₀ ts₀
   }
 
 -- ---- into columns of zeros
-drop-zeros : {B : Type 0} (z : B) (i n : ℕ) → drop i (replicate n z) ≡ replicate (n - i) z
-drop-zeros z zero n = let e : n - 0 ≡ n = omega arith in rw e
-drop-zeros z (suc i) zero = let e : 0 - suc i ≡ 0 = omega arith in rw e
-drop-zeros z (suc i) (suc n) = let e : suc n - suc i ≡ n - i = omega arith in drop-zeros z i n ∙ (rw e)
-
 stored : {A B : Type 0} (z : B) (f : A → B) (rows : List A) (col : List B) {col₁ col′ : List B} → col₁ ≡ replicate (length col) z → length rows ≤ length col → col′ ≡ sets col₁ 0 (map f rows) → col′ ≡ padded z (length col) (map f rows)
 stored z f rows col e h q =
     let n : length (map f rows) ≡ length rows = length-map rows f in

@@ -16,12 +16,13 @@ use lib.Dec.{eqb, leb}
 use lib.IntN.{ℤ, _+ℤ_}
 use lib.ListN.{length, take, length-append, length-map}
 use borrow.Author.Tests.{eqb-false, ltb-false, not-true}
-use Rattle.grid.specs.Lists.{past, insert, sort}
+use Rattle.grid.specs.Lists.{past}
 use Rattle.grid.specs.Times.{joined, meets}
 use Rattle.grid.specs.Frontiers.{beyond, shortOf}
 use Rattle.grid.specs.Consolidate.{isZero, unlessZero, add, consolidate}
 use Rattle.grid.proofs.Tests.{by-test, clash, or-false-l, or-false-r, or-l, or-r, and-i}
 use Rattle.grid.proofs.Lists.{All, nil, cons, head, all-append, all-of, keep-all, all-puts}
+use Rattle.grid.proofs.Sort.{length-sort}
 use Rattle.rules.specs.Histories.{Edit, timeOf, earlier, joinedEdit, loadTimes, loadEdits, moved}
 use Rattle.rules.specs.Discover.{State, mostMoments, start, heads, next, interesting, isMoment, made, waitingPast, momentsPast, passes, acted, remeet, step, run, discover}
 use Rattle.rules.proofs.Order.{moved-in, next-head, next-over, all-past, seeds-left, input-left, output-left}
@@ -46,14 +47,6 @@ unmoved-head f n (x ∷ xs) e = by-test (eqb n (f x)) (λ c. clash true refl (rw
 head-map : {A : Type 0} {P : ℕ → Type 0} (f : A → ℕ) (xs : List A) → All (λ x. P (f x)) (take 1 xs) → All P (take 1 (map f xs))
 head-map f [] h = nil
 head-map f (x ∷ xs) h = cons (head h) nil
-
-length-insert : {A : Type 0} (le : A → A → Bool) (x : A) (xs : List A) → length (insert le x xs) ≡ suc (length xs)
-length-insert le x [] = refl
-length-insert le x (y ∷ ys) = by-test (le x y) (λ e. rw e) (λ e. rw (e, length-insert le x ys))
-
-length-sort : {A : Type 0} (le : A → A → Bool) (xs : List A) → length (sort le xs) ≡ length xs
-length-sort le [] = refl
-length-sort le (x ∷ xs) = rw (length-insert le x (sort le xs), length-sort le xs)
 
 length-unlessZero : {A : Type 0} (a : A) (d : ℤ) (r : List (A × ℤ)) → length (unlessZero a d r) ≤ suc (length r)
 length-unlessZero a d r = by-test (isZero d) (λ e. rw e (omega arith)) (λ e. rw e (omega arith))

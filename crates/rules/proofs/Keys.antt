@@ -18,7 +18,7 @@ use lib.IntN.{ℤ, pos, _+ℤ_, +ℤ-idl, +ℤ-idr}
 use borrow.Author.Tests.{eqb-true, eq-eqb, ne-eqb, ltb-true}
 use Rattle.grid.specs.Lists.{any, keep, ascending, flat}
 use Rattle.grid.specs.Records.{Row}
-use Rattle.grid.proofs.Tests.{by-test, clash, or-l, or-r, or-false-l}
+use Rattle.grid.proofs.Tests.{by-test, clash, or-l, or-r, or-false-l, or-assoc}
 use Rattle.grid.proofs.Lists.{keep-none, all-at, All, nil, cons, all-imp, all-l, all-r, map-all, none-all, any-none, puts-all}
 use Rattle.grid.proofs.Sums.{sum, sum-append, sum-sort, sum-ext, sum-map, sum-keep, sum-zero}
 use Rattle.grid.proofs.Consolidate.{strict-ltb, share, tally}
@@ -139,11 +139,7 @@ pending-of k t (p ∷ ps) = by-test (eqb k (p .0)) (λ e. rw (e, pending-of k t 
 lists-append : (ps rs : List (ℕ × ℕ)) (k t : ℕ) → lists (ps ++ rs) k t ≡ (lists ps k t || lists rs k t)
 unfolding lists
 lists-append [] rs k t = refl
-lists-append (p ∷ ps) rs k t = rw (lists-append ps rs k t) (assoc (eqb k (p .0) && eqb t (p .1)) (lists ps k t) (lists rs k t))
-  where
-    assoc : (a b c : Bool) → (a || (b || c)) ≡ ((a || b) || c)
-    assoc true b c = refl
-    assoc false b c = refl
+lists-append (p ∷ ps) rs k t = rw (lists-append ps rs k t) (or-assoc (eqb k (p .0) && eqb t (p .1)) (lists ps k t) (lists rs k t))
 
 lists-own : (k t : ℕ) (ts : List ℕ) → lists (map (λ u. (k, u)) ts) k t ≡ any (eqb t) ts
 unfolding lists

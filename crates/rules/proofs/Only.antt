@@ -21,7 +21,7 @@ use Rattle.grid.specs.Times.{below}
 use Rattle.grid.specs.Frontiers.{beyond}
 use Rattle.grid.specs.Consolidate.{isZero, consolidate}
 use Rattle.grid.specs.Records.{Row, Rank, rank, rankBefore}
-use Rattle.grid.proofs.Tests.{by-test, clash, and-i, and-l, and-r}
+use Rattle.grid.proofs.Tests.{by-test, clash, and-i, and-l, and-r, and-false}
 use Rattle.grid.proofs.Lists.{All, nil, cons, head, all-of, all-append, all-imp, all-map, all-keep, keep-all}
 use Rattle.grid.proofs.Times.{below-true, true-below, below-refl, below-le}
 use Rattle.grid.proofs.Frontiers.{beyond-up}
@@ -86,10 +86,6 @@ seenFrom k = visible (k .0) (eqb (k .1))
 
 self-seen : (k : ℕ × ℕ) → seenFrom k k ≡ true
 self-seen k = and-i _ _ (true-below (k .0) (k .0) (below-refl (k .0))) (eq-eqb (k .1) (k .1) refl)
-
-and-false : (a : Bool) → (a && false) ≡ false
-and-false true = refl
-and-false false = refl
 
 later-hidden : (k j : ℕ × ℕ) → earlier k j ≡ true → seenFrom k j ≡ false
 later-hidden k j e =

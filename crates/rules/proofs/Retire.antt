@@ -115,7 +115,7 @@ tally-correction mode p i o =
     plus-minus : (x y : ℤ) → x +ℤ (y +ℤ negℤ x) ≡ y
     plus-minus x y = left-comm x y (negℤ x) ∙ ap (λ z. y +ℤ z) (+ℤ-invr x) ∙ +ℤ-idr y
 
-correction-nothing : (mode : ℕ) → correction mode [] [] ≡ []
+pub correction-nothing : (mode : ℕ) → correction mode [] [] ≡ []
 unfolding correction wanted count distinct minus
 correction-nothing mode = by-test (eqb mode 1) (λ e. rw e) (λ e. rw e)
 

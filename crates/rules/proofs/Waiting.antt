@@ -14,10 +14,10 @@ use lib.Dec.{eqb, ltb}
 use lib.ListN.{length}
 use borrow.Author.Tests.{eqb-true, ltb-true, ltb-false, lt-ltb, ne-eqb}
 use Rattle.grid.specs.Lists.{keep, past, ascending}
-use Rattle.grid.specs.Times.{put, puts}
 use Rattle.grid.specs.Frontiers.{shortOf}
 use Rattle.grid.proofs.Tests.{by-test, and-l}
 use Rattle.grid.proofs.Lists.{All, nil, cons}
+use Rattle.grid.proofs.Operations.{length-puts}
 use Rattle.rules.specs.Histories.{Edit, moved}
 use Rattle.rules.specs.Discover.{State, mostMoments, start, next, made, waitingPast, passes, acted, remaining, remeet, step, run}
 use Rattle.rules.proofs.Order.{remaining-each, next-none, run-keeps}
@@ -25,16 +25,6 @@ use Rattle.rules.proofs.Fuel.{ahead, measure, Bounded, waiting-moment, 
 use Rattle.rules.proofs.Moments.{Listed, start-listed, step-listed}
 
 -- ---- lengths
-length-put : (t : ℕ) (us : List ℕ) → length us ≤ length (put t us)
-length-put t [] = omega arith
-length-put t (u ∷ us) =
-    let ih = length-put t us in
-    by-test (ltb t u) (λ e. rw e (omega arith)) (λ e. by-test (eqb t u) (λ e′. rw (e, e′) (omega arith)) (λ e′. rw (e, e′) (omega arith)))
-
-length-puts : (ts us : List ℕ) → length us ≤ length (puts ts us)
-length-puts [] us = omega arith
-length-puts (t ∷ ts) us = omega (arith, length-puts ts us, length-put t (puts ts us))
-
 -- a time stands in a strictly ascending list at most once
 past-next : (n x : ℕ) (xs : List ℕ) → eqb n x ≡ true → ascending ltb (x ∷ xs) ≡ true → past (eqb n) xs ≡ xs
 past-next n x [] e a = refl

@@ -19,6 +19,7 @@ use Rattle.grid.specs.Lists.{keep, flat}
 use Rattle.grid.proofs.Tests.{by-test}
 use Rattle.grid.proofs.Lists.{All, nil, cons, keep-length}
 use Rattle.grid.specs.Records.{Row}
+use Rattle.grid.proofs.Operations.{map-take, map-drop}
 use Rattle.rules.proofs.Statuses.{call-worked, call-quiet, call-refused}
 use Rattle.rules.specs.Histories.{Edit}
 use Rattle.rules.specs.Tiles.{Tile, tiles}
@@ -131,17 +132,6 @@ unfolding settle
 settle-length mode input output [] = refl
 settle-length mode input output (t ∷ ts) = ap suc (settle-length mode input (output ++ dated t (roundAt mode input output t .fixes)) ts)
 
-module _ {A B : Type 0} (f : A → B) where
-  take-map : (n : ℕ) (xs : List A) → take n (map f xs) ≡ map f (take n xs)
-  take-map zero xs = refl
-  take-map (suc n) [] = refl
-  take-map (suc n) (x ∷ xs) = ap (_∷_ (f x)) (take-map n xs)
-
-  drop-map : (n : ℕ) (xs : List A) → drop n (map f xs) ≡ map f (drop n xs)
-  drop-map zero xs = refl
-  drop-map (suc n) [] = refl
-  drop-map (suc n) (x ∷ xs) = drop-map n xs
-
 -- lists of the same lengths
 module _ {A B C : Type 0} (f : A → List B) (g : A → List C) (same : (x : A) → length (f x) ≡ length (g x)) where
   longest-same : (xs : List A) → longest (map f xs) ≡ longest (map g xs)
@@ -152,7 +142,7 @@ module _ {A B C : Type 0} (f : A → List B) (g : A → List C) (same : (x : A) 
   windows-same zero width xs = refl
   windows-same (suc n) width [] = refl
   windows-same (suc n) width (x ∷ xs) =
-      rw (take-map f width (x ∷ xs), drop-map f width (x ∷ xs), take-map g width (x ∷ xs), drop-map g width (x ∷ xs))
+      rw (← map-take f width (x ∷ xs), ← map-drop f width (x ∷ xs), ← map-take g width (x ∷ xs), ← map-drop g width (x ∷ xs))
       (ap₂ _+_ (longest-same (take width (x ∷ xs))) (windows-same n width (drop width (x ∷ xs))))
 
 module _ (q : Request) where

@@ -10,12 +10,13 @@ use mathlib.Core.Bool.{Bool, true, false, not, _||_}
 use mathlib.Core.List.{List, [], _∷_, map, map-map}
 use mathlib.Core.Path.{_≡_, refl, sym, _∙_, ap, ap₂, subst}
 use lib.Dec.{eqb, leb}
-use lib.ListN.{length, take, drop, length-map}
+use lib.ListN.{length, drop, length-map}
 use borrow.Author.Tests.{ltb-false, leb-true}
 use Rattle.grid.specs.Lists.{keep, sort, flat}
 use Rattle.grid.specs.Records.{Row}
 use Rattle.grid.proofs.Tests.{and-l, and-r, or-false-l, or-false-r}
 use Rattle.grid.proofs.Lists.{All, nil, cons, all-imp, all-map, map-all, none-all}
+use Rattle.grid.proofs.Operations.{map-take, map-drop}
 use Rattle.rules.specs.Histories.{Edit}
 use Rattle.rules.specs.Discover.{State, mostMoments, start, momentsPast, passes, acted, remeet, step, discover}
 use Rattle.rules.specs.Retire.{windows, roundsOf, crossings}
@@ -24,7 +25,7 @@ use Rattle.rules.specs.Runs.{workOf}
 use Rattle.rules.proofs.Order.{run-keeps}
 use Rattle.rules.proofs.Width.{windows-whole}
 use Rattle.rules.proofs.Statuses.{Accepted, fixesFound}
-use Rattle.backends.proofs.Columns.{map-drop, all-take, all-drop}
+use Rattle.backends.proofs.Columns.{all-take, all-drop}
 use Rattle.rounds.specs.Slots.{slotsOf, rowsTooLarge, windowRows, windowCrossings}
 use Rattle.settled.specs.Call.{slotOf, windowsOf, rowsOf, crossingsOf, asFix}
 use Rattle.settled.proofs.Permuted.{Perm, perm-each}
@@ -34,11 +35,6 @@ use Rattle.settled.proofs.Distinct.{rowsDone, corrections-distinct}
 use Rattle.settled.proofs.Fixes.{rows-large, fixes-arranged}
 
 -- ---- windows
-map-take : {A B : Type 0} (f : A → B) (n : ℕ) (l : List A) → map f (take n l) ≡ take n (map f l)
-map-take f zero l = refl
-map-take f (suc n) [] = refl
-map-take f (suc n) (x ∷ l) = ap (λ r. f x ∷ r) (map-take f n l)
-
 windows-map : {A B : Type 0} (f : A → B) (n width : ℕ) (xs : List A) → windows n width (map f xs) ≡ map (map f) (windows n width xs)
 windows-map f zero width xs = refl
 windows-map f (suc n) width [] = refl

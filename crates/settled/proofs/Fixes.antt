@@ -17,6 +17,7 @@ use Rattle.grid.specs.Consolidate.{lex}
 use Rattle.grid.specs.Records.{Row, Rank, mostRecords, rank, rankBefore, before, inRange}
 use Rattle.grid.proofs.Tests.{by-test, or-r}
 use Rattle.grid.proofs.Consolidate.{Strict, strict-ltb, strict-lex}
+use Rattle.grid.proofs.Operations.{any-append}
 use Rattle.rules.specs.Tiles.{tiles}
 use Rattle.rules.specs.Retire.{Round}
 use Rattle.rules.specs.Call.{Request, Fix, Done, fixesOf, fixBefore, fixesAll, tooLarge}
@@ -24,7 +25,7 @@ use Rattle.rounds.specs.Slots.{rowsIn, rowsTooLarge}
 use Rattle.settled.specs.Call.{asFix}
 use Rattle.settled.proofs.Permuted.{Perm, perm-sym, perm-trans, perm-map, perm-sort, length-perm, any-perm, pairwise-imp, pairwise-map, pairwise-perm}
 use Rattle.settled.proofs.Arranged.{Distinct, sort-distinct}
-use Rattle.settled.proofs.Flat.{map-flat, any-map, any-append}
+use Rattle.settled.proofs.Flat.{map-flat, any-map}
 use Rattle.settled.proofs.Distinct.{rowsDone}
 
 -- ---- too many, or out of range

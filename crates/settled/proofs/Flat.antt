@@ -1,23 +1,19 @@
 -- Lists one after the other, and tests of lists in a row.
 --
--- flat-append, flat-map, flat-flat, map-flat, flat-none, flat-all, length-flat: of `flat`, under the operations on lists
--- any-append, any-map: some element passes, of two lists, of what a function makes of the elements
+-- flat-map, flat-flat, map-flat, flat-none, flat-all, length-flat: of `flat`, under the operations on lists
+-- any-map: some element passes, of what a function makes of the elements
 -- sumOf-all: functions that agree on each element have one sum
 use Prim.Native.Nat.{ℕ, _+_}
-use mathlib.Core.Bool.{Bool, true, false, _||_}
-use mathlib.Core.List.{List, [], _∷_, _++_, map, append-assoc}
+use mathlib.Core.Bool.{Bool, _||_}
+use mathlib.Core.List.{List, [], _∷_, _++_, map, map-append}
 use mathlib.Core.Path.{_≡_, refl, sym, _∙_, ap, ap₂}
 use lib.ListN.{length, length-append}
 use Rattle.grid.specs.Lists.{any, flat}
 use Rattle.grid.proofs.Lists.{All, nil, cons}
+use Rattle.grid.proofs.Operations.{flat-append}
 use Rattle.rules.proofs.Width.{sumOf}
-use Rattle.backends.proofs.Columns.{map-append}
 
 module _ {A B : Type 0} where
-  pub flat-append : (f : A → List B) (xs ys : List A) → flat f (xs ++ ys) ≡ flat f xs ++ flat f ys
-  flat-append f [] ys = refl
-  flat-append f (x ∷ xs) ys = ap (λ l. f x ++ l) (flat-append f xs ys) ∙ sym (append-assoc (f x) (flat f xs) (flat f ys))
-
   pub flat-none : (xs : List A) → flat {B = B} (λ x. []) xs ≡ []
   flat-none [] = refl
   flat-none (x ∷ xs) = flat-none xs
@@ -42,14 +38,6 @@ module _ {A B C : Type 0} where
 pub flat-flat : {A B : Type 0} (f : A → List B) (xss : List (List A)) → flat (flat f) xss ≡ flat f (flat (λ xs. xs) xss)
 flat-flat f [] = refl
 flat-flat f (xs ∷ xss) = ap (λ l. flat f xs ++ l) (flat-flat f xss) ∙ sym (flat-append f xs (flat (λ xs. xs) xss))
-
-or-assoc : (a b c : Bool) → (a || (b || c)) ≡ ((a || b) || c)
-or-assoc true b c = refl
-or-assoc false b c = refl
-
-pub any-append : {A : Type 0} (p : A → Bool) (xs ys : List A) → any p (xs ++ ys) ≡ (any p xs || any p ys)
-any-append p [] ys = refl
-any-append p (x ∷ xs) ys = ap (λ b. p x || b) (any-append p xs ys) ∙ or-assoc (p x) (any p xs) (any p ys)
 
 pub any-map : {A B : Type 0} (p : B → Bool) (f : A → B) (xs : List A) → any p (map f xs) ≡ any (λ x. p (f x)) xs
 any-map p f [] = refl

@@ -14,12 +14,12 @@ use lib.Seq.{take-all, take-nil}
 use Rattle.grid.specs.Lists.{any, keep, flat}
 use Rattle.grid.specs.Records.{Row}
 use Rattle.grid.proofs.Lists.{All, nil, cons, all-imp, all-map}
+use Rattle.grid.proofs.Operations.{map-drop, flat-append}
 use Rattle.rules.specs.Retire.{Round, roundAt, either, roundsOf}
 use Rattle.rules.proofs.Width.{settle-length, longest, rounds-longest}
 use Rattle.rounds.specs.Slots.{Slot, roundNow, rowsIn, rowsNow, crossesNow, slotPast, windowRows, windowCrossings}
-use Rattle.backends.proofs.Columns.{map-drop}
 use Rattle.settled.proofs.Permuted.{Perm, perm-refl, perm-trans, perm-front, perm-flat}
-use Rattle.settled.proofs.Flat.{flat-append, flat-map, flat-none, flat-all, any-map}
+use Rattle.settled.proofs.Flat.{flat-map, flat-none, flat-all, any-map}
 use Rattle.settled.proofs.Slots.{settled, settled-now, settled-past}
 
 take-more : {A : Type 0} (n : ℕ) (xs : List A) → take 1 xs ++ take n (drop 1 xs) ≡ take (suc n) xs

@@ -19,6 +19,7 @@ use Rattle.rules.specs.Tiles.{Tile, tiles}
 use Rattle.rules.specs.Memory.{mostBound, tileSize, tileNumbers}
 use Rattle.grid.specs.Slices.{Laid}
 use Rattle.grid.proofs.Slices.{Laying, laying-start, laying-end, laid-from, laid-length, laid-front, laid-back, laid-twice}
+use Rattle.grid.proofs.Operations.{flat-append}
 use Rattle.tiles.specs.Described.{kept, heldTimes, Front, Kept, Tiled, Roomy}
 use Rattle.tiles.proofs.Writing.{laid-at, tile-length}
 
@@ -52,10 +53,6 @@ pub tiles-kept : (lower upper : List ℕ) (h : ℕ) (later : List ℕ)
     → tiles lower upper (h ∷ later) ≡ kept lower (allInserted later upper) h ++ tiles (allInserted later upper) upper later
 unfolding tiles kept
 tiles-kept lower upper h later = by-test (same (allInserted later upper) lower) (λ e. rw e) (λ e. rw e)
-
-flat-append : {A B : Type 0} (f : A → List B) (xs ys : List A) → flat f (xs ++ ys) ≡ flat f xs ++ flat f ys
-flat-append f [] ys = refl
-flat-append f (x ∷ xs) ys = ap (λ r. f x ++ r) (flat-append f xs ys) ∙ sym (append-assoc (f x) (flat f xs) (flat f ys))
 
 heldTimes-append : (ts us : List Tile) → heldTimes (ts ++ us) ≡ heldTimes ts ++ heldTimes us
 unfolding heldTimes

@@ -3,7 +3,8 @@
 --
 -- standing-call: the answer that stands in the memory that a call leaves is the call's answer, at every status
 -- call-memory-fits: that memory is long enough
--- Replied text out′ r: r says that out′ begins with the whole text. replied-asked, replied-bad: so it is of a request, and of a bad line
+-- Printed text out out′ r: r says that the whole text was written, and out′ is it and then what out held. replied-asked, replied-bad: so it is of
+-- the reply to a request, and to a bad line
 use Prim.Native.Nat.{ℕ, _+_, _-_, _≤_, _<_}
 use native.Mathlib.Omega.{arith}
 use mathlib.Core.Bool.{true, _&&_}
@@ -11,8 +12,8 @@ use mathlib.Core.List.{List, _++_}
 use mathlib.Core.Path.{_≡_, refl, sym, _∙_, ap}
 use lib.Dec.{leb}
 use lib.IntN.{ℤ, pos}
-use lib.ListN.{length, take, drop, replicate, length-append, length-replicate}
-use lib.Seq.{sets-eq, take-append-seam}
+use lib.ListN.{length, drop, replicate, length-append, length-replicate}
+use lib.Seq.{sets-eq}
 use borrow.Author.Tests.{le-leb, lt-leb, leb-true, leb-false}
 use Rattle.grid.specs.Records.{mostRecords}
 use Rattle.grid.proofs.Tests.{by-test}
@@ -74,23 +75,23 @@ module _ (q : Request) (m : Memory) where
       (by-test (leb 3 (call q .status)) (λ e. rw e) (λ e. rw e))
 
 -- ---- the whole text
-pub record Replied (text out′ : List ℕ) (r : Text) : Type 0 where
+pub record Printed (text out out′ : List ℕ) (r : Text) : Type 0 where
   pub told-all : r ≡ Whole (length text)
-  pub begins : take (length text) out′ ≡ text
+  pub holds : out′ ≡ text ++ drop (length text) out
 
-replied : {text out out′ : List ℕ} {r : Text} → length text ≤ length out → Written true text out out′ r → Replied text out′ r
-replied {text} {out} h w = record {
+printed : {text out out′ : List ℕ} {r : Text} → length text ≤ length out → Written true text out out′ r → Printed text out out′ r
+printed {text} {out} h w = record {
   told-all = w .told-is ∙ sym (told-whole (length text) (length out) h);
-  begins = ap (take (length text)) (w .holds ∙ sets-eq text out 0 (omega arith)) ∙ take-append-seam text (drop (0 + length text) out);
+  holds = let z : 0 + length text ≡ length text = omega arith in w .holds ∙ sets-eq text out 0 (omega arith) ∙ ap (λ (k : ℕ). text ++ drop k out) z;
 }
 
 module _ (s : List ℕ) {out out′ : List ℕ} {r : Text} (room : mostText ≤ length out) where
-  pub replied-bad : {n : ℕ} → parse s ≡ bad n → Written true (showBad n) out out′ r → Replied (reply s) out′ r
-  replied-bad {n} e w = rw (reply-bad s e) (replied (omega (arith, bad-length n)) w)
+  pub replied-bad : {n : ℕ} → parse s ≡ bad n → Written true (showBad n) out out′ r → Printed (reply s) out out′ r
+  replied-bad {n} e w = rw (reply-bad s e) (printed (omega (arith, bad-length n)) w)
 
   pub replied-asked :
       {q : Request} → parse s ≡ asked q → (m : Memory) → numbersSize ≤ length (m .numbers) → mostRecords ≤ length (m .diffs)
       → Written (memoryFits (resultsOf (call q)) (length (after (call q) m .numbers)) (length (after (call q) m .diffs))) (showAnswer (standing (resultsOf (call q)) (after (call q) m .numbers) (after (call q) m .diffs))) out out′ r
-      → Replied (reply s) out′ r
+      → Printed (reply s) out out′ r
   replied-asked {q} e m h k w =
-      rw (reply-asked s e) (replied (omega (arith, answer-length (call q) (answer-fits q (request-only s e .fits)))) (rw (call-memory-fits q m h k, standing-call q m) at w))
+      rw (reply-asked s e) (printed (omega (arith, answer-length (call q) (answer-fits q (request-only s e .fits)))) (rw (call-memory-fits q m h k, standing-call q m) at w))

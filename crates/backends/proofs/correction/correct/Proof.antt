@@ -1,14 +1,14 @@
 use Rattle.backends.proofs.Wanted.{ready-none, ready-one, end-distinct, end-none, end-one}
-use Rattle.backends.proofs.Signed.{told-zero, told-id}
+use Rattle.diffs.proofs.Signed.{told-zero, told-id}
 use borrow.Author.Needs.{needs}
 use Rattle.backends.proofs.correction.correct.Statement.{statement}
 use Rattle.backends.proofs.correction.correct.Tie as tie
 use Rattle.backends.proofs.correction.correct.Reads as reads
 use Rattle.backends.proofs.correction.correct.Lts as lts
 use Rattle.backends.proofs.correction.differ.Reads as differ-reads
-use Rattle.backends.proofs.diffs.count_id.Reads as count-id-reads
-use Rattle.backends.proofs.diffs.is_zero.Reads as is-zero-reads
-use Rattle.backends.proofs.diffs.total.Reads as total-reads
+use Rattle.diffs.proofs.count_id.Reads as count-id-reads
+use Rattle.diffs.proofs.is_zero.Reads as is-zero-reads
+use Rattle.diffs.proofs.total.Reads as total-reads
 
 -- src/correction.rt:105:13
 total-requires : tie.Need-total-requires

@@ -10,9 +10,9 @@ use Rattle.backends.proofs.correction.differ.Tie as tie
 use Rattle.backends.proofs.correction.differ.Reads as reads
 use Rattle.backends.proofs.correction.differ.Lts as lts
 use Rattle.backends.proofs.correction.which.Reads as which-reads
-use Rattle.backends.proofs.diffs.is_zero.Reads as is-zero-reads
-use Rattle.backends.proofs.diffs.negated.Reads as negated-reads
-use Rattle.backends.proofs.diffs.one_less.Reads as one-less-reads
+use Rattle.diffs.proofs.is_zero.Reads as is-zero-reads
+use Rattle.diffs.proofs.negated.Reads as negated-reads
+use Rattle.diffs.proofs.one_less.Reads as one-less-reads
 
 abbrev Inv-loop : tie.InvT-loop
 Inv-loop iv id ov od cv₀ cd₀ at n m i₀ j₀ k₀ cv cd i j k = Differing iv id ov od at cv₀ cd₀ cv cd i j k

@@ -7,7 +7,7 @@ use Rattle.backends.proofs.correction.which.Statement.{statement}
 use Rattle.backends.proofs.correction.which.Tie as tie
 use Rattle.backends.proofs.correction.which.Reads as reads
 use Rattle.backends.proofs.correction.which.Lts as lts
-use Rattle.backends.proofs.diffs.is_listed.Reads as is-listed-reads
+use Rattle.backends.proofs.listed.is_listed.Reads as is-listed-reads
 
 -- src/correction.rt:20:9
 returns : tie.Need-returns

@@ -2,7 +2,7 @@ use lib.Dec.{ltb}
 use mathlib.Core.Path.{_∙_}
 use Rattle.grid.specs.Records.{rankBefore}
 use Rattle.grid.specs.Consolidate.{lex}
-use Rattle.checks.proofs.Ascending.{lex-same, lex-first}
+use Rattle.rows.proofs.Pairs.{lex-same, lex-first}
 use borrow.Author.Needs.{needs}
 use Rattle.checks.proofs.order.rank_before.Statement.{statement}
 use Rattle.checks.proofs.order.rank_before.Tie as tie

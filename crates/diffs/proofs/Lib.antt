@@ -1,0 +1,3 @@
+pub mod Signed
+pub mod Ranges
+pub mod Adding
