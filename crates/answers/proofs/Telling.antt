@@ -14,10 +14,10 @@ use lib.ListN.{length, take, length-take}
 use borrow.Author.Tests.{lt-ltb, le-ltb}
 use Rattle.grid.specs.Frontiers.{mostTimes, minimal}
 use Rattle.grid.specs.Records.{Row, rows, pairs}
+use Rattle.grid.proofs.Operations.{pairs-times}
 use Rattle.rules.specs.Call.{Answer, refused, quietAnswer}
 use Rattle.results.specs.Told.{Told, Counted, Published, QuietTold, NothingTold, Ready, published}
-use Rattle.results.specs.Parts.{Next}
-use Rattle.results.proofs.Told.{pairs-times}
+use Rattle.placing.specs.Parts.{Next}
 use Rattle.results.specs.declared.worked.Counts.{Counts}
 use Rattle.answers.specs.Tells.{Tells, TellsQuiet, Concludes, concluded}
 use Rattle.answers.specs.declared.Outcome.{Outcome}

@@ -6,7 +6,7 @@ ghost use mathlib.Core.Path.{_≡_};
 ghost use mathlib.Core.Bool.{false, _&&_};
 ghost use lib.Dec.{leb};
 ghost use Rattle.rules.specs.Call.{refused};
-ghost use Rattle.results.specs.Parts.{Wide};
+ghost use Rattle.placing.specs.Parts.{Wide};
 ghost use Rattle.results.specs.Told.{Quiet};
 ghost use Rattle.answers.specs.Tells.{Tells, TellsQuiet};
 

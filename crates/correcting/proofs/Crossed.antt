@@ -18,21 +18,23 @@ use Rattle.grid.specs.Records.{rows}
 use Rattle.grid.proofs.Tests.{by-test}
 use Rattle.grid.proofs.Lists.{All, nil, cons}
 use Rattle.grid.proofs.Consolidate.{Canon, strict-ltb, canon-consolidate}
+use Rattle.grid.proofs.Operations.{no-length}
 use Rattle.rules.specs.Histories.{Edit}
 use Rattle.rules.specs.Backends.{Sums, wanted, minus, correction}
+use Rattle.rules.proofs.Retire.{correction-nothing}
 use Rattle.backends.specs.Columns.{entries}
 use Rattle.backends.specs.Crossing.{segments, corrections, Crossing, LaidInRow}
-use Rattle.backends.proofs.Columns.{less, no-length}
-use Rattle.rounds.specs.Present.{edits}
-use Rattle.rounds.specs.Window.{Orderly}
+use Rattle.backends.proofs.Columns.{less}
+use Rattle.moments.specs.Present.{edits}
+use Rattle.moments.specs.Window.{Orderly}
 use Rattle.rounds.specs.Merges.{merged, mergedAt}
 use Rattle.rounds.specs.Fixes.{fixRows, rowsAt}
 use Rattle.rounds.specs.Slots.{rowsTooLarge}
-use Rattle.rounds.proofs.Taking.{length-segments}
+use Rattle.moments.proofs.Taking.{length-segments}
 use Rattle.correcting.specs.Settle.{Settles, Turns, Corrects, Crosses}
 use Rattle.correcting.specs.declared.Settled.{Settled}
 use Rattle.correcting.proofs.InRow.{all-segments, column-within}
-use Rattle.correcting.proofs.Nothing.{correction-none, merged-none}
+use Rattle.correcting.proofs.Nothing.{merged-none}
 use Rattle.correcting.proofs.Held.{held-segments, held-cut, held-long, held-columns}
 
 corrections-canon : (mode : ℕ) (is os : List Sums) → All (Canon ltb) (corrections mode is os)
@@ -60,7 +62,7 @@ corrections-blank : (mode : ℕ) {is os : List Sums} → Blank is → Blank os �
 unfolding corrections
 corrections-blank mode nil b = nil
 corrections-blank mode (cons p a) nil = nil
-corrections-blank mode (cons p a) (cons q b) = cons ((λ z. correction mode (p z) (q z)) ∙ correction-none mode) (corrections-blank mode a b)
+corrections-blank mode (cons p a) (cons q b) = cons ((λ z. correction mode (p z) (q z)) ∙ correction-nothing mode) (corrections-blank mode a b)
 
 rows-blank : (ks ts : List ℕ) {cs : List Sums} → Blank cs → rowsAt ks ts cs ≡ []
 unfolding rowsAt fixRows

@@ -9,7 +9,7 @@ use Prim.Native.Nat.{ℕ, _+_, _-_, _<_, _≤_, _^_}
 use native.Mathlib.Omega.{arith}
 use mathlib.Core.Bool.{Bool, true, false, not, _||_}
 use mathlib.Core.Path.{_≡_, refl, sym, _∙_, ap, subst}
-use mathlib.Core.List.{List, [], _∷_, _++_, map}
+use mathlib.Core.List.{List, [], _∷_, _++_, map, map-append}
 use lib.Dec.{ltb}
 use lib.IntN.{ℤ, natAbs}
 use lib.ListN.{length, take, length-map}
@@ -19,19 +19,20 @@ use Rattle.grid.specs.Lists.{any, every}
 use Rattle.grid.specs.Records.{Row, inRange, rows}
 use Rattle.grid.proofs.Tests.{by-test, clash, or-false-l, or-false-r}
 use Rattle.grid.proofs.Lists.{All, nil, cons, head, tail, all-append, all-imp, all-map, map-all, all-sort, every-all}
+use Rattle.grid.proofs.Operations.{no-length}
 use Rattle.rules.specs.Histories.{Edit}
 use Rattle.rules.specs.Backends.{Sums}
 use Rattle.rules.specs.Retire.{dated}
 use Rattle.backends.specs.Columns.{entries, valuesOf, diffsOf}
 use Rattle.backends.specs.Crossing.{segments, whole}
-use Rattle.backends.proofs.Columns.{less, no-length, map-append, length-entries}
-use Rattle.rounds.specs.Present.{edits}
-use Rattle.rounds.specs.Window.{Orderly}
+use Rattle.backends.proofs.Columns.{less, length-entries}
+use Rattle.moments.specs.Present.{edits}
+use Rattle.moments.specs.Window.{Orderly}
 use Rattle.rounds.specs.Merges.{byValue, merged, mergedAt, endOf}
 use Rattle.rounds.specs.Fixes.{fixRows, rowsAt, RowsListed, AppendsAll}
 use Rattle.rounds.specs.Slots.{rowsTooLarge}
 use Rattle.rounds.proofs.Mixing.{merged-sorted}
-use Rattle.rounds.proofs.Taking.{length-segments}
+use Rattle.moments.proofs.Taking.{length-segments}
 use Rattle.correcting.specs.Back.{Holds, MergesBack}
 use Rattle.correcting.specs.Settle.{Grown, Settles, Turned, Turns, Corrects}
 use Rattle.correcting.specs.declared.Settled.{Settled}

@@ -14,15 +14,16 @@ use lib.IntN.{ℤ}
 use lib.ListN.{length, take, drop, length-append, length-drop, length-take, length-map, take-append-drop}
 use lib.Seq.{take-add, drop-drop, take-append-seam, drop-append-seam}
 use Rattle.grid.proofs.Lists.{All, nil, cons, head, tail}
+use Rattle.grid.proofs.Operations.{no-length}
 use Rattle.rules.specs.Histories.{Edit, timeOf, valueOf}
 use Rattle.rules.specs.Backends.{Sums}
 use Rattle.backends.specs.Columns.{entries, Column}
 use Rattle.backends.specs.Crossing.{part, segments, ends, whole, Cut, done, next}
-use Rattle.backends.proofs.Columns.{less, no-length, all-take, all-drop}
+use Rattle.backends.proofs.Columns.{less, all-take, all-drop}
 use Rattle.backends.proofs.Segments.{part-length, length-ends}
-use Rattle.rounds.specs.Present.{edits}
+use Rattle.moments.specs.Present.{edits}
 use Rattle.rounds.specs.Merges.{mergedAt, merged, endOf, MergesRow, RowsInRow}
-use Rattle.rounds.proofs.Taking.{front-part, length-segments}
+use Rattle.moments.proofs.Taking.{front-part, length-segments}
 use Rattle.rounds.proofs.Merging.{merged-length}
 use Rattle.correcting.specs.Back.{Holds, Room, Copied, MergesBack}
 

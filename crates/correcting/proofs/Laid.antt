@@ -9,14 +9,15 @@ use lib.IntN.{ℤ}
 use lib.ListN.{length, take, drop, length-append, take-append-drop}
 use lib.Seq.{take-all, take-append-seam}
 use Rattle.grid.proofs.Lists.{All, nil, cons}
+use Rattle.grid.proofs.Operations.{no-length}
 use Rattle.rules.specs.Histories.{Edit}
 use Rattle.backends.specs.Crossing.{part, whole}
-use Rattle.backends.proofs.Columns.{less, no-length}
+use Rattle.backends.proofs.Columns.{less}
 use Rattle.backends.proofs.Segments.{part-length}
-use Rattle.rounds.specs.Present.{edits}
-use Rattle.rounds.specs.Window.{partsOf, Apart, done, next}
+use Rattle.moments.specs.Present.{edits}
+use Rattle.moments.specs.Window.{partsOf, Apart, done, next}
 use Rattle.rounds.specs.Merges.{endOf, RowsInRow}
-use Rattle.rounds.proofs.Showing.{edits-length}
+use Rattle.moments.proofs.Showing.{edits-length}
 use Rattle.correcting.specs.Back.{Holds, LaysOut, LaidOut}
 use Rattle.correcting.proofs.InRow.{edits-over, holds-segments, holds-cut, holds-end}
 

@@ -1,23 +1,16 @@
 -- Where there is nothing to correct.
 --
--- correction-none: two empty sums need no correction. merged-none: an output in order, with no corrections, is as it was
+-- merged-none: an output in order, with no corrections, is as it was
 use Prim.Native.Nat.{ℕ}
 use mathlib.Core.Path.{_≡_, _∙_, ap}
 use mathlib.Core.List.{List, [], append-nil}
-use lib.Dec.{eqb}
 use Rattle.grid.specs.Lists.{sort}
-use Rattle.grid.proofs.Tests.{by-test}
 use Rattle.grid.proofs.Sort.{sort-sorted}
 use Rattle.rules.specs.Histories.{Edit}
-use Rattle.rules.specs.Backends.{wanted, count, distinct, minus, correction}
 use Rattle.rules.specs.Retire.{dated}
-use Rattle.rounds.specs.Window.{Orderly}
+use Rattle.moments.specs.Window.{Orderly}
 use Rattle.rounds.specs.Merges.{byValue, merged}
 use Rattle.rounds.proofs.Mixing.{sorted-of}
-
-pub correction-none : (mode : ℕ) → correction mode [] [] ≡ []
-unfolding correction wanted count distinct minus
-correction-none mode = by-test (eqb mode 1) (λ e. rw e) (λ e. rw e)
 
 pub merged-none : (t : ℕ) (o : List Edit) → Orderly o → merged o t [] ≡ o
 unfolding merged dated

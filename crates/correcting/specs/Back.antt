@@ -11,8 +11,8 @@ use lib.IntN.{ℤ}
 use lib.ListN.{length, take, drop}
 use Rattle.rules.specs.Histories.{Edit}
 use Rattle.backends.specs.Crossing.{segments, ends, whole, Cut}
-use Rattle.rounds.specs.Present.{edits}
-use Rattle.rounds.specs.Window.{Orderly}
+use Rattle.moments.specs.Present.{edits}
+use Rattle.moments.specs.Window.{Orderly}
 use Rattle.rounds.specs.Merges.{endOf, MergesRow, LaysRow}
 
 pub record Holds (ss : List (List Edit)) (ue uv ut : List ℕ) (ud : List ℤ) : Type 0 where

@@ -18,10 +18,11 @@ use Rattle.grid.specs.Records.{Row, mostRecords, rows}
 use Rattle.grid.proofs.Lists.{All}
 use Rattle.grid.proofs.Consolidate.{Canon}
 use Rattle.rules.specs.Histories.{Edit}
-use Rattle.backends.specs.Columns.{entries, modest}
+use Rattle.diffs.specs.Diffs.{modest}
+use Rattle.backends.specs.Columns.{entries}
 use Rattle.backends.specs.Crossing.{segments, Cut}
-use Rattle.rounds.specs.Present.{edits}
-use Rattle.rounds.specs.Window.{Orderly}
+use Rattle.moments.specs.Present.{edits}
+use Rattle.moments.specs.Window.{Orderly}
 use Rattle.rounds.specs.Merges.{endOf}
 use Rattle.rounds.specs.Slots.{rowsTooLarge}
 use Rattle.correcting.specs.declared.Settled.{Settled}

@@ -7,8 +7,8 @@ ghost use mathlib.Core.Path.{_≡_};
 ghost use lib.ListN.{length};
 ghost use Rattle.backends.specs.Columns.{entries};
 ghost use Rattle.backends.specs.Crossing.{segments};
-ghost use Rattle.rounds.specs.Present.{edits};
-ghost use Rattle.rounds.specs.Window.{partsOf};
+ghost use Rattle.moments.specs.Present.{edits};
+ghost use Rattle.moments.specs.Window.{partsOf};
 ghost use Rattle.rounds.specs.Merges.{mergedAt};
 ghost use Rattle.correcting.specs.Back.{Holds, Room, Copied, MergesBack, LaysOut, LaidOut};
 

@@ -10,7 +10,7 @@ ghost use lib.Dec.{ltb};
 ghost use lib.ListN.{take};
 ghost use Rattle.backends.specs.Columns.{entries};
 ghost use Rattle.backends.specs.Crossing.{segments, corrections};
-ghost use Rattle.rounds.specs.Present.{edits};
+ghost use Rattle.moments.specs.Present.{edits};
 ghost use Rattle.rounds.specs.Merges.{mergedAt};
 ghost use Rattle.rounds.specs.Fixes.{rowsAt};
 ghost use Rattle.correcting.specs.Settle.{Settles, Turns, Corrects, Crosses};

@@ -4,7 +4,7 @@
 -- Filled z at m xs rest s: s holds xs up to `at`, then m zeros, then rest. filled-block: one block among zeros. filled-more: the next block laid over the zeros
 -- filled-on: a block past the zeros, when there are none left. filled-end: only zeros are left
 -- memory-filled: all of result memory
-use Prim.Native.Nat.{ℕ, zero, suc, _+_, _*_, _-_, _≤_}
+use Prim.Native.Nat.{ℕ, _+_, _*_, _-_, _≤_}
 use native.Mathlib.Omega.{arith}
 use native.Mathlib.Nat.{zero-add}
 use mathlib.Core.List.{List, [], _++_, append-assoc, append-nil}
@@ -14,18 +14,14 @@ use lib.Seq.{take-at, drop-append-le, drop-drop, drop-at}
 use Rattle.grid.specs.Lists.{padded}
 use Rattle.grid.specs.Frontiers.{mostTimes}
 use Rattle.grid.specs.Records.{mostRecords}
+use Rattle.grid.proofs.Operations.{drop-zeros}
 use Rattle.rules.specs.Memory.{tileSize, numbersSize}
-use Rattle.results.specs.Parts.{laidAt, columnAt, tilesAt, frontierAt}
+use Rattle.placing.specs.Parts.{laidAt, columnAt, tilesAt, frontierAt}
 
 module _ {A : Type 0} (z : A) where
-  drop-zeros : (n m : ℕ) → drop n (replicate m z) ≡ replicate (m - n) z
-  drop-zeros zero m = let e : m ≡ m - 0 = omega arith in ap (λ k. replicate k z) e
-  drop-zeros (suc n) zero = let e : 0 ≡ 0 - suc n = omega arith in ap (λ k. replicate k z) e
-  drop-zeros (suc n) (suc m) = let e : m - n ≡ suc m - suc n = omega arith in drop-zeros n m ∙ ap (λ k. replicate k z) e
-
   pub laid-first : (n : ℕ) (ys : List A) → laidAt 0 ys (replicate n z) ≡ padded z n ys
   unfolding laidAt
-  laid-first n ys = ap (λ k. ys ++ drop k (replicate n z)) (zero-add (length ys)) ∙ ap (λ l. ys ++ l) (drop-zeros (length ys) n)
+  laid-first n ys = ap (λ k. ys ++ drop k (replicate n z)) (zero-add (length ys)) ∙ ap (λ l. ys ++ l) (drop-zeros z (length ys) n)
 
   record Filled (at m : ℕ) (xs rest s : List A) : Type 0 where
     counted : length xs ≡ at
@@ -41,7 +37,7 @@ module _ {A : Type 0} (z : A) where
       sym (drop-drop (length ys) at s)
       ∙ ap (λ l. drop (length ys) l) (ap (drop at) (f .holds) ∙ drop-at xs (replicate m z ++ rest) at n)
       ∙ drop-append-le (length ys) (replicate m z) rest (rw (length-replicate m z) (omega arith))
-      ∙ ap (λ l. l ++ rest) (drop-zeros (length ys) m ∙ ap (λ j. replicate j z) zeros ∙ sym (replicate-append-replicate (w - length ys) (m - w) z))
+      ∙ ap (λ l. l ++ rest) (drop-zeros z (length ys) m ∙ ap (λ j. replicate j z) zeros ∙ sym (replicate-append-replicate (w - length ys) (m - w) z))
       ∙ append-assoc (replicate (w - length ys) z) (replicate (m - w) z) rest in
       record {
         counted = length-append xs (padded z w ys) ∙ rw (length-append ys (replicate (w - length ys) z), length-replicate (w - length ys) z) (omega arith);

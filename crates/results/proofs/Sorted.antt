@@ -16,9 +16,9 @@ use Rattle.rules.specs.Memory.{numbersSize}
 use Rattle.slices.specs.Places.{entry, diffEntry}
 use Rattle.arranging.specs.Arranged.{Long, Room, fixes, RecordsAt, WorkAfter, sortedPlaces}
 use Rattle.arranging.proofs.Arranged.{fixes-arranged}
-use Rattle.results.specs.Parts.{laidAt, columnAt, fixesLaid, Wide}
+use Rattle.placing.specs.Parts.{laidAt, columnAt, fixesLaid, Wide}
 use Rattle.results.specs.Sorted.{sortedFixes, FirstFixes, FixesTold}
-use Rattle.results.proofs.Parts.{part-laid, first-length}
+use Rattle.placing.proofs.Parts.{part-laid, first-length}
 
 module _ (tiles keys values times : List ℕ) (diffs : List ℤ) where
   abbrev fixAt : ℕ → Fix

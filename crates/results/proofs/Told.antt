@@ -15,33 +15,20 @@ use Rattle.grid.specs.Lists.{padded, flat}
 use Rattle.grid.specs.Frontiers.{mostTimes}
 use Rattle.grid.specs.Records.{Row, mostRecords, rows, pairs}
 use Rattle.grid.proofs.Sort.{length-sort}
+use Rattle.grid.proofs.Operations.{pairs-keys, pairs-times, pairs-length}
 use Rattle.rules.specs.Tiles.{tiles, tileOf}
 use Rattle.rules.specs.Call.{Fix, Answer, refused, quietAnswer}
 use Rattle.rules.specs.Memory.{tileSize, numbersSize, tileNumbers, numbers, diffs, leaves}
 use Rattle.arranging.specs.Arranged.{fixes}
-use Rattle.results.specs.Parts.{laidAt, tilesAt, fixesLaid, listsLaid, Wide, Zeros}
-use Rattle.results.specs.Placed.{Few, TilesTold}
+use Rattle.placing.specs.Parts.{laidAt, tilesAt, fixesLaid, listsLaid, Wide, Zeros}
+use Rattle.placing.specs.Placed.{Few, TilesTold}
 use Rattle.results.specs.Sorted.{sortedFixes, FirstFixes, FixesTold}
 use Rattle.results.specs.Told.{placed, published, Ready, Published, Quiet, QuietTold, NothingTold}
-use Rattle.results.proofs.Parts.{first-length}
+use Rattle.placing.proofs.Parts.{first-length}
 use Rattle.results.proofs.Filled.{laid-first, memory-filled}
-use Rattle.results.proofs.Placed.{numbers-short}
+use Rattle.placing.proofs.Placed.{numbers-short}
 
 -- ---- columns of records, of pairs
-pairs-keys : (ks ts : List ℕ) → length ts ≡ length ks → map (λ (p : ℕ × ℕ). p .0) (pairs ks ts) ≡ ks
-pairs-keys [] ts e = refl
-pairs-keys (k ∷ ks) [] e = absurd (omega arith)
-pairs-keys (k ∷ ks) (t ∷ ts) e = ap (λ l. k ∷ l) (pairs-keys ks ts (omega arith))
-
-pub pairs-times : (ks ts : List ℕ) → length ts ≡ length ks → map (λ (p : ℕ × ℕ). p .1) (pairs ks ts) ≡ ts
-pairs-times [] [] e = refl
-pairs-times [] (t ∷ ts) e = absurd (omega arith)
-pairs-times (k ∷ ks) [] e = absurd (omega arith)
-pairs-times (k ∷ ks) (t ∷ ts) e = ap (λ l. t ∷ l) (pairs-times ks ts (omega arith))
-
-pairs-length : (ks ts : List ℕ) → length ts ≡ length ks → length (pairs ks ts) ≡ length ks
-pairs-length ks ts e = sym (length-map (pairs ks ts) (λ p. p .0)) ∙ ap length (pairs-keys ks ts e)
-
 rows-length : (ks vs ts : List ℕ) (ds : List ℤ) → length ks ≡ length ts → length vs ≡ length ts → length ds ≡ length ts → length (rows ks vs ts ds) ≡ length ts
 rows-length [] vs [] ds p q u = refl
 rows-length [] vs (t ∷ ts) ds p q u = absurd (omega arith)

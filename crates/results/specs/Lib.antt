@@ -1,4 +1,2 @@
-pub mod Parts
-pub mod Placed
 pub mod Sorted
 pub mod Told

@@ -12,7 +12,7 @@ use Rattle.grid.specs.Lists.{sort}
 use Rattle.grid.specs.Records.{mostRecords}
 use Rattle.rules.specs.Call.{Fix, fixBefore}
 use Rattle.arranging.specs.Arranged.{fixes}
-use Rattle.results.specs.Parts.{laidAt, fixesLaid, Wide}
+use Rattle.placing.specs.Parts.{laidAt, fixesLaid, Wide}
 
 abbrev pub sortedFixes : List Fix → List Fix
 sortedFixes fs = sort (λ f g. not (fixBefore g f)) fs

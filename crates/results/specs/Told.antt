@@ -3,14 +3,13 @@
 -- Told a: result memory holds the answer a, and zeros past it. Counted a: the counts are of the answer's lists
 -- placed held ts rs: corrections, each with the place of its tile. published: the answer of a call that worked
 -- Ready, Published: what publish takes, and what it says. Quiet, QuietTold: the same of publish_quiet. NothingTold: what publish_nothing says
--- emptied, emptiedDiffs: slices, all zero
 use Prim.Native.Nat.{ℕ, _≤_}
 use mathlib.Core.Bool.{false, _&&_}
 use mathlib.Core.List.{List, map}
 use mathlib.Core.Path.{_≡_}
 use lib.Dec.{leb}
 use lib.IntN.{ℤ, pos}
-use lib.ListN.{length, replicate}
+use lib.ListN.{length}
 use Rattle.grid.specs.Frontiers.{mostTimes}
 use Rattle.grid.specs.Records.{Row, mostRecords, rows, pairs}
 use Rattle.rules.specs.Tiles.{Tile, tiles, tileOf}
@@ -66,13 +65,6 @@ pub record Ready (keys values times : List ℕ) (diffs : List ℤ) (n : ℕ) (pe
   pub room-work : n ≤ length work
   pub wide-numbers : numbersSize ≤ length res
   pub wide-diffs : mostRecords ≤ length rd
-
--- slices, all zero
-abbrev pub emptied : List (List ℕ) → List (List ℕ)
-emptied ss = map (λ s. replicate (length s) 0) ss
-
-abbrev pub emptiedDiffs : List (List ℤ) → List (List ℤ)
-emptiedDiffs ss = map (λ s. replicate (length s) (pos 0)) ss
 
 -- ---- the other statuses
 pub record Quiet (held pendkeys pendtimes res : List ℕ) (rd : List ℤ) : Type 0 where

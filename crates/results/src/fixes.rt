@@ -1,10 +1,10 @@
 // The corrections, ascending by (tile, key, value, time).
-use crate::columns::gather_column;
-use crate::memory::FIX_KEYS;
-use crate::memory::FIX_TILES;
-use crate::memory::FIX_TIMES;
-use crate::memory::FIX_VALUES;
 use arranging::order_places;
+use placing::FIX_KEYS;
+use placing::FIX_TILES;
+use placing::FIX_TIMES;
+use placing::FIX_VALUES;
+use placing::gather_column;
 use slices::gather_diffs;
 ghost use mathlib.Core.List.{map};
 ghost use mathlib.Core.Path.{_≡_};
@@ -14,7 +14,7 @@ ghost use Rattle.grid.specs.Records.{mostRecords};
 ghost use Rattle.rules.specs.Memory.{numbersSize};
 ghost use Rattle.slices.specs.Places.{entry};
 ghost use Rattle.arranging.specs.Arranged.{Long, Room};
-ghost use Rattle.results.specs.Parts.{laidAt, columnAt, Wide};
+ghost use Rattle.placing.specs.Parts.{laidAt, columnAt, Wide};
 ghost use Rattle.results.specs.Sorted.{FirstFixes, FixesTold};
 
 // Writes the corrections at the given places to their four columns of result memory.

@@ -1,8 +1,8 @@
 // The answers of calls that do not work.
-use crate::clear::clear_results;
-use crate::lists::publish_lists;
 use crate::worked::Counts;
-ghost use Rattle.results.specs.Parts.{Wide};
+use placing::clear_results;
+use placing::publish_lists;
+ghost use Rattle.placing.specs.Parts.{Wide};
 ghost use Rattle.results.specs.Told.{Quiet, QuietTold, NothingTold};
 
 // 1: "no tiles, no corrections; pending copied; next frontier = held".

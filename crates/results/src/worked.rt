@@ -1,13 +1,14 @@
 // The answer of a call, written to result memory.
-use crate::clear::clear_results;
-use crate::clear::clear_three;
 use crate::fixes::publish_fixes;
-use crate::lists::publish_lists;
-use crate::place::publish_tiles;
+use placing::clear_results;
+use placing::clear_three;
+use placing::publish_lists;
+use placing::publish_tiles;
 ghost use mathlib.Core.List.{[], _∷_};
 ghost use mathlib.Core.Path.{_≡_};
 ghost use lib.ListN.{take};
-ghost use Rattle.results.specs.Told.{Ready, Published, emptied};
+ghost use Rattle.placing.specs.Parts.{emptied};
+ghost use Rattle.results.specs.Told.{Ready, Published};
 
 // How many entries of result memory are used.
 pub struct Counts {

@@ -14,11 +14,10 @@ use Rattle.backends.specs.Columns.{Column}
 use Rattle.backends.specs.Crossing.{part, ends, whole}
 use Rattle.backends.proofs.Columns.{Writing, writing-start, writing-more, writing-end}
 use Rattle.backends.proofs.Segments.{part-length, ends-next, length-ends}
-use Rattle.rounds.specs.Present.{edits}
-use Rattle.rounds.specs.Window.{partsOf, Apart, Orderly}
+use Rattle.moments.specs.Present.{edits}
+use Rattle.moments.specs.Window.{partsOf, Apart, Orderly}
 use Rattle.rounds.specs.Merges.{Rows, RowsInRow, Lays, LaysRow}
-use Rattle.rounds.proofs.Mixing.{e₀, edits-at, edits-values}
-use Rattle.rounds.proofs.Showing.{part-edits, edits-length, apart-next, apart-past, parts-next}
+use Rattle.moments.proofs.Showing.{part-edits, edits-length, apart-next, apart-past, parts-next, e₀, edits-at, edits-values}
 use Rattle.rounds.proofs.Listing.{Listing, listing-start, listing-more, listing-append, listing-end}
 
 -- ---- one part

@@ -1,10 +1,4 @@
-pub mod Summing
-pub mod Shown
-pub mod Passing
 pub mod Mixing
-pub mod Seen
-pub mod Showing
-pub mod Taking
 pub mod Listing
 pub mod Merging
 pub mod Noting

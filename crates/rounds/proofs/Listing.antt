@@ -3,11 +3,11 @@
 -- Listing: of the edits of `goal`, `rest` are still to be written. listing-start, listing-more, listing-append, listing-end: one edit written, many, all
 use Prim.Native.Nat.{ℕ, _+_, _<_}
 use mathlib.Core.Path.{_≡_, _∙_, ap}
-use mathlib.Core.List.{List, [], _∷_, _++_, map}
+use mathlib.Core.List.{List, [], _∷_, _++_, map, map-append}
 use lib.IntN.{ℤ}
 use lib.ListN.{length, set}
 use Rattle.rules.specs.Histories.{Edit, timeOf, valueOf}
-use Rattle.backends.proofs.Columns.{map-append, Writing, writing-start, writing-more, writing-append, writing-end}
+use Rattle.backends.proofs.Columns.{Writing, writing-start, writing-more, writing-append, writing-end}
 use Rattle.rounds.specs.Merges.{Rows}
 
 pub record Listing (yv₀ yt₀ : List ℕ) (yd₀ : List ℤ) (at : ℕ) (goal : List Edit) (yv yt : List ℕ) (yd : List ℤ) (k : ℕ) (rest : List Edit) : Type 0 where

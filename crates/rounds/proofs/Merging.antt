@@ -24,10 +24,10 @@ use Rattle.backends.specs.Columns.{entries, valuesOf, Column}
 use Rattle.backends.specs.Crossing.{part, segments, ends, whole, Cut, done, next}
 use Rattle.backends.proofs.Columns.{length-entries, values-entries, Writing, writing-start, writing-more, writing-end}
 use Rattle.backends.proofs.Segments.{part-entries, part-length, cut-next, segments-next, ends-next, length-ends}
-use Rattle.rounds.specs.Present.{edits, Laid}
-use Rattle.rounds.specs.Window.{Orderly}
+use Rattle.moments.specs.Present.{edits, Laid}
+use Rattle.moments.specs.Window.{Orderly}
 use Rattle.rounds.specs.Merges.{byValue, merged, Merges, Rows, mergedAt, endOf, MergesRow, RowsInRow}
-use Rattle.rounds.proofs.Showing.{part-edits, edits-length, laid-part}
+use Rattle.moments.proofs.Showing.{part-edits, edits-length, laid-part}
 use Rattle.rounds.proofs.Listing.{Listing, listing-start, listing-append, listing-end}
 
 pub canon-sorted : {c : Sums} → Canon ltb c → Sorted leb (valuesOf c)

@@ -19,34 +19,18 @@ use Rattle.grid.proofs.Lists.{all-map, map-all}
 use Rattle.grid.proofs.Sort.{Ranking, ranking-leb, Sorted, none, more, sorted-sort, merge, merge-sorted, leftFirst, merge-left, merge-right, merge-none, first-left, first-none}
 use Rattle.grid.proofs.Sums.{sum, sum-sort, sum-map, sum-keep}
 use Rattle.grid.proofs.Consolidate.{strict-ltb, share, consolidate-ext}
+use Rattle.grid.proofs.Operations.{no-length, map-drop}
 use Rattle.rules.specs.Histories.{Edit, timeOf, valueOf}
 use Rattle.rules.specs.Backends.{Sums}
 use Rattle.rules.specs.Retire.{seen, dated}
 use Rattle.backends.specs.Columns.{entries}
-use Rattle.backends.proofs.Columns.{less, no-length, map-drop, Writing, writing-start, writing-more, writing-end}
-use Rattle.rounds.specs.Present.{edits}
+use Rattle.backends.proofs.Columns.{less, Writing, writing-start, writing-more, writing-end}
+use Rattle.moments.specs.Present.{edits}
 use Rattle.rounds.specs.Merges.{byValue, merged, Merges, Rows}
-use Rattle.rounds.proofs.Shown.{shown}
-
-abbrev pub e₀ : Edit
-e₀ = ((0, 0), pos 0)
+use Rattle.moments.proofs.Shown.{shown}
+use Rattle.moments.proofs.Showing.{e₀, edits-at, edits-values}
 
 -- ---- the columns of edits
-pub edits-values : (vs ts : List ℕ) (ds : List ℤ) → length ts ≡ length vs → length ds ≡ length vs → map valueOf (edits vs ts ds) ≡ vs
-unfolding edits valueOf
-edits-values [] ts ds a b = refl
-edits-values (v ∷ vs) [] ds a b = no-length (length vs) (sym a)
-edits-values (v ∷ vs) (t ∷ ts) [] a b = no-length (length vs) (sym b)
-edits-values (v ∷ vs) (t ∷ ts) (d ∷ ds) a b = ap (λ l. v ∷ l) (edits-values vs ts ds (less a) (less b))
-
-pub edits-at : (vs ts : List ℕ) (ds : List ℤ) (i : ℕ) → length ts ≡ length vs → length ds ≡ length vs → i < length vs → getD (edits vs ts ds) i e₀ ≡ ((getD ts i 0, getD vs i 0), getD ds i (pos 0))
-unfolding edits
-edits-at [] ts ds i a b h = absurd (omega arith)
-edits-at (v ∷ vs) [] ds i a b h = no-length (length vs) (sym a)
-edits-at (v ∷ vs) (t ∷ ts) [] i a b h = no-length (length vs) (sym b)
-edits-at (v ∷ vs) (t ∷ ts) (d ∷ ds) zero a b h = refl
-edits-at (v ∷ vs) (t ∷ ts) (d ∷ ds) (suc i) a b h = edits-at vs ts ds i (less a) (less b) (omega arith)
-
 dated-values : (t : ℕ) (vs : List ℕ) (ds : List ℤ) → length ds ≡ length vs → map valueOf (dated t (entries vs ds)) ≡ vs
 unfolding dated entries valueOf
 dated-values t [] ds b = refl

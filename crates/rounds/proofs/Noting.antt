@@ -6,7 +6,7 @@
 use Prim.Native.Nat.{ℕ, _+_, _-_, _*_, _<_, _≤_, _^_}
 use native.Mathlib.Omega.{arith}
 use mathlib.Core.Path.{_≡_, sym, _∙_, ap, subst}
-use mathlib.Core.List.{List, [], _∷_, _++_, map}
+use mathlib.Core.List.{List, [], _∷_, _++_, map, map-append}
 use lib.Dec.{ltb}
 use lib.IntN.{ℤ, pos}
 use lib.ListN.{length, drop, getD, set, drop-of-length-le, length-map}
@@ -16,7 +16,7 @@ use Rattle.grid.proofs.Consolidate.{Canon}
 use Rattle.rules.specs.Backends.{Sums}
 use Rattle.backends.specs.Columns.{entries}
 use Rattle.backends.specs.Crossing.{part, segments, Cut}
-use Rattle.backends.proofs.Columns.{map-append, length-entries, getD-entries, Writing, writing-start, writing-more, writing-append, writing-end}
+use Rattle.backends.proofs.Columns.{length-entries, getD-entries, Writing, writing-start, writing-more, writing-append, writing-end}
 use Rattle.backends.proofs.Segments.{part-entries, part-length, cut-next, segments-next}
 use Rattle.rounds.specs.Fixes.{fixRow, fixRows, rowsAt, RowsListed, Appends, AppendsAll}
 

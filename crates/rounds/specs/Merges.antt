@@ -22,8 +22,8 @@ use Rattle.rules.specs.Backends.{Sums}
 use Rattle.rules.specs.Retire.{dated}
 use Rattle.backends.specs.Columns.{entries, Column}
 use Rattle.backends.specs.Crossing.{ends, whole, Cut}
-use Rattle.rounds.specs.Present.{edits}
-use Rattle.rounds.specs.Window.{Apart, Orderly}
+use Rattle.moments.specs.Present.{edits}
+use Rattle.moments.specs.Window.{Apart, Orderly}
 
 abbrev pub byValue : Edit → Edit → Bool
 byValue e f = leb (valueOf e) (valueOf f)

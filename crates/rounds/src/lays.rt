@@ -1,6 +1,6 @@
 // Slots' parts of a run, laid in a row.
-ghost use Rattle.rounds.specs.Present.{edits};
-ghost use Rattle.rounds.specs.Window.{partsOf};
+ghost use Rattle.moments.specs.Present.{edits};
+ghost use Rattle.moments.specs.Window.{partsOf};
 ghost use Rattle.rounds.specs.Merges.{Rows, RowsInRow, Lays, LaysRow};
 
 // Appends at `at` the edits of three columns.

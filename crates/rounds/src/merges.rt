@@ -1,26 +1,10 @@
 // A slot's corrections of a round, merged by value into its output.
+use sorting::left_first;
 use times::PackedTime;
-ghost use mathlib.Core.Path.{_≡_};
-ghost use lib.Dec.{leb};
-ghost use lib.ListN.{drop};
-ghost use Rattle.grid.proofs.Sort.{leftFirst};
 ghost use Rattle.backends.specs.Columns.{entries};
 ghost use Rattle.backends.specs.Crossing.{segments};
-ghost use Rattle.rounds.specs.Present.{edits};
+ghost use Rattle.moments.specs.Present.{edits};
 ghost use Rattle.rounds.specs.Merges.{merged, Merges, Rows, mergedAt, MergesRow, RowsInRow};
-
-// Whether the merge of a from i and b from j takes a's element.
-fn takes_left(a: &[u64], i: usize, b: &[u64], j: usize) -> bool
-    ensures { λ r. ⌜ r ≡ leftFirst leb (drop i (now (a .entry))) (drop j (now (b .entry))) ⌝ }
-{
-    if i >= a.len() {
-        return false;
-    }
-    if j >= b.len() {
-        return true;
-    }
-    a[i] <= b[j]
-}
 
 // Appends at `at` the segment (uv, ut, ud) with the corrections (cv, cd) at time t.
 pub fn merge_corrections(
@@ -44,7 +28,7 @@ pub fn merge_corrections(
     let mut j = 0;
     let mut k = at;
     while i + j < n + m {
-        if takes_left(uv, i, cv, j) {
+        if left_first(uv, i, cv, j) {
             yv[k] = uv[i];
             yt[k] = ut[i];
             let d = ud[i];

@@ -20,8 +20,8 @@ use Rattle.grid.proofs.Lists.{All, all-imp}
 use Rattle.rules.specs.Histories.{Edit}
 use Rattle.rules.specs.Discover.{mostMoments}
 use Rattle.backends.specs.Crossing.{segments}
-use Rattle.rounds.specs.Present.{edits}
-use Rattle.rounds.specs.Window.{partsOf}
+use Rattle.moments.specs.Present.{edits}
+use Rattle.moments.specs.Window.{partsOf}
 use Rattle.rounds.specs.Slots.{Slot, slotsOf, rowsNow, crossesNow, slotPast, windowRows, windowCrossings, rowsTooLarge}
 use Rattle.correcting.specs.Settle.{Settles, Stands, LentOut, LentFixes, LentSums}
 use Rattle.settling.specs.Rounds.{Rounds, Rounded, spanFrom}

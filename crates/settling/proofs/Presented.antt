@@ -13,18 +13,19 @@ use lib.ListN.{length, take, getD, length-map, length-take, length-drop}
 use Rattle.grid.proofs.Tests.{by-test}
 use Rattle.grid.proofs.Lists.{All, nil, cons, head, tail, all-append, map-all}
 use Rattle.grid.proofs.Consolidate.{Canon, none}
+use Rattle.grid.proofs.Operations.{no-length}
 use Rattle.rules.specs.Histories.{Edit}
 use Rattle.rules.specs.Backends.{Sums}
 use Rattle.rules.specs.Retire.{seen}
-use Rattle.backends.specs.Columns.{modest}
+use Rattle.diffs.specs.Diffs.{modest}
 use Rattle.backends.specs.Crossing.{part, segments, whole, Cut, LaidInRow}
 use Rattle.backends.specs.Crossing as crossing
-use Rattle.backends.proofs.Columns.{less, no-length}
-use Rattle.rounds.specs.Present.{edits}
-use Rattle.rounds.specs.Window.{partsOf, Apart, Orderly, seenAt, momentsAt, livesAt, Window, RowWindow, Taken}
-use Rattle.rounds.specs.Window as window
-use Rattle.rounds.proofs.Seen.{seen-canon, seen-modest}
-use Rattle.rounds.proofs.Taking.{front-part, length-segments}
+use Rattle.backends.proofs.Columns.{less}
+use Rattle.moments.specs.Present.{edits}
+use Rattle.moments.specs.Window.{partsOf, Apart, Orderly, seenAt, momentsAt, livesAt, Window, RowWindow, Taken}
+use Rattle.moments.specs.Window as window
+use Rattle.moments.proofs.Seen.{seen-canon, seen-modest}
+use Rattle.moments.proofs.Taking.{front-part, length-segments}
 use Rattle.settling.specs.Slotted.{Shows, Presents}
 use Rattle.settling.specs.declared.Shown.{Shown}
 use Rattle.correcting.proofs.InRow.{column-within}

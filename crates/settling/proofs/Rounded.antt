@@ -14,15 +14,16 @@ use Rattle.grid.specs.Records.{Row}
 use Rattle.grid.proofs.Lists.{All, all-map}
 use Rattle.rules.specs.Histories.{Edit}
 use Rattle.rules.specs.Backends.{Sums}
-use Rattle.backends.specs.Columns.{entries, modest}
+use Rattle.diffs.specs.Diffs.{modest}
+use Rattle.backends.specs.Columns.{entries}
 use Rattle.backends.specs.Crossing.{segments, whole, corrections}
-use Rattle.rounds.specs.Present.{edits}
-use Rattle.rounds.specs.Window.{partsOf, seenAt, momentsAt, livesAt}
+use Rattle.moments.specs.Present.{edits}
+use Rattle.moments.specs.Window.{partsOf, seenAt, momentsAt, livesAt}
 use Rattle.rounds.specs.Merges.{mergedAt}
 use Rattle.rounds.specs.Fixes.{rowsAt}
 use Rattle.rounds.specs.Slots.{Slot, slotsOf, rowsNow, crossesNow}
-use Rattle.rounds.proofs.Showing.{edits-length}
-use Rattle.rounds.proofs.Taking.{length-segments}
+use Rattle.moments.proofs.Showing.{edits-length}
+use Rattle.moments.proofs.Taking.{length-segments}
 use Rattle.correcting.specs.Settle.{Settles, Turns, Crosses}
 use Rattle.settling.specs.Slotted.{Shows, Presents}
 use Rattle.settling.specs.Rounds.{Rounds, Rounded}

@@ -15,20 +15,22 @@ use borrow.Author.Tests.{ltb-true, ltb-false, lt-ltb, le-ltb}
 use Rattle.grid.specs.Lists.{any, flat}
 use Rattle.grid.proofs.Tests.{by-test}
 use Rattle.grid.proofs.Lists.{All, nil, cons, head, tail}
+use Rattle.grid.proofs.Operations.{no-length}
 use Rattle.rules.specs.Histories.{Edit}
 use Rattle.rules.specs.Backends.{Sums, correction}
 use Rattle.rules.specs.Retire.{seen, crosses, roundAt}
+use Rattle.rules.proofs.Retire.{correction-nothing}
 use Rattle.backends.specs.Crossing.{whole, corrections}
-use Rattle.backends.proofs.Columns.{less, no-length}
-use Rattle.rounds.specs.Window.{Orderly, seenAt, momentsAt, livesAt}
+use Rattle.backends.proofs.Columns.{less}
+use Rattle.moments.specs.Window.{Orderly, seenAt, momentsAt, livesAt}
 use Rattle.rounds.specs.Merges.{merged, mergedAt}
 use Rattle.rounds.specs.Fixes.{fixRows, rowsAt}
 use Rattle.rounds.specs.Slots.{Slot, slotsOf, roundNow, rowsIn, rowsNow, crossesNow, outputPast, slotPast, windowRows, windowCrossings}
-use Rattle.correcting.proofs.Nothing.{correction-none, merged-none}
+use Rattle.correcting.proofs.Nothing.{merged-none}
 
 fixes-are : (mode : ℕ) (a b : Sums) → cond (crosses a b) (correction mode a b) [] ≡ correction mode a b
 unfolding crosses
-fixes-are mode [] [] = sym (correction-none mode)
+fixes-are mode [] [] = sym (correction-nothing mode)
 fixes-are mode [] (y ∷ b) = refl
 fixes-are mode (x ∷ a) b = refl
 
@@ -61,7 +63,7 @@ module _ (mode j k : ℕ) (i o : List Edit) (m : List ℕ) where
   rows-slot =
       by-test (ltb j (length m))
       (λ e. rw (e, drop-cons m j 0 (ltb-true j (length m) e)) (append-nil _ ∙ ap (map _) (fixes-are mode (seen (getD m j 0) i) (seen (getD m j 0) o))))
-      (λ e. rw (e, drop-of-length-le m {i = j} (ltb-false j (length m) e), correction-none mode))
+      (λ e. rw (e, drop-of-length-le m {i = j} (ltb-false j (length m) e), correction-nothing mode))
 
   crosses-slot : crossesNow mode s ≡ ltb 0 (length (shows i) + length (shows o))
   unfolding crossesNow roundNow roundAt
@@ -75,7 +77,7 @@ module _ (mode j k : ℕ) (i o : List Edit) (m : List ℕ) where
   output-slot h =
       by-test (ltb j (length m))
       (λ e. rw (e, drop-cons m j 0 (ltb-true j (length m) e)) (ap (merged o (getD m j 0)) (fixes-are mode (seen (getD m j 0) i) (seen (getD m j 0) o))))
-      (λ e. rw (e, drop-of-length-le m {i = j} (ltb-false j (length m) e), correction-none mode) (sym (merged-none (getD m j 0) o h)))
+      (λ e. rw (e, drop-of-length-le m {i = j} (ltb-false j (length m) e), correction-nothing mode) (sym (merged-none (getD m j 0) o h)))
 
   past-slot : Orderly o → slotPast mode s ≡ slot k i (merged o (getD m j 0) fix) (drop (j + 1) m)
   unfolding slotPast

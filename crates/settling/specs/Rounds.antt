@@ -16,7 +16,7 @@ use Rattle.grid.specs.Lists.{any, flat}
 use Rattle.rules.specs.Histories.{Edit}
 use Rattle.rules.specs.Discover.{mostMoments}
 use Rattle.backends.specs.Crossing.{segments}
-use Rattle.rounds.specs.Present.{edits}
+use Rattle.moments.specs.Present.{edits}
 use Rattle.rounds.specs.Slots.{slotsOf, rowsNow, crossesNow, slotPast}
 use Rattle.correcting.specs.Settle.{Settles, Stands, LentOut, LentFixes, LentSums}
 use Rattle.settling.specs.Slotted.{Slotted}

@@ -11,8 +11,8 @@ use lib.ListN.{length, take}
 use Rattle.rules.specs.Histories.{Edit}
 use Rattle.rules.specs.Discover.{mostMoments}
 use Rattle.backends.specs.Crossing.{Cut, LaidInRow}
-use Rattle.rounds.specs.Present.{edits}
-use Rattle.rounds.specs.Window.{Apart, Orderly, seenAt, momentsAt, livesAt}
+use Rattle.moments.specs.Present.{edits}
+use Rattle.moments.specs.Window.{Apart, Orderly, seenAt, momentsAt, livesAt}
 use Rattle.correcting.specs.Settle.{LentOut}
 use Rattle.settling.specs.declared.Shown.{Shown}
 

@@ -1,12 +1,12 @@
 // The slots of a window at their moments of a round.
 use crate::Shown;
-use rounds::present_row;
-use rounds::present_window;
-use rounds::round_moments;
+use moments::present_row;
+use moments::present_window;
+use moments::round_moments;
 ghost use lib.ListN.{length};
 ghost use Rattle.backends.specs.Crossing.{segments};
-ghost use Rattle.rounds.specs.Present.{edits};
-ghost use Rattle.rounds.specs.Window.{partsOf};
+ghost use Rattle.moments.specs.Present.{edits};
+ghost use Rattle.moments.specs.Window.{partsOf};
 ghost use Rattle.settling.specs.Slotted.{Shows, Presents};
 
 // The j-th moments of the slots, and what is seen at them of their input and of their output, in rows.

@@ -1,8 +1,6 @@
-// The two forms by reference: a key's view, and a replay's place that is stepped where it stands.
-mod cursor;
+// A key's view by reference, and discover_times through it.
 mod key;
 
-pub use cursor::step_place;
 pub use key::KeyView;
 pub use key::discover_through;
 pub use key::discover_view;

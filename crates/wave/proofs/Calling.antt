@@ -20,10 +20,11 @@ use Rattle.rules.specs.Memory.{leaves}
 use Rattle.rules.specs.Wave.{Emission, waveOf, goodWaveRun, waveRefused, waveCall}
 use Rattle.rules.proofs.Wave.{WaveRun, good-run, WaveOutcome, short, unfit, over, worked, wave-outcome-only}
 use Rattle.edits.specs.Edits.{edits, Alike}
-use Rattle.wave.specs.Emissions.{over as laidOver}
+use Rattle.emissions.specs.Emissions.{over as laidOver, Cleared}
 use Rattle.wave.specs.Turns.{emittedTime, emittedFirst, emittedSecond, emittedDiff}
-use Rattle.wave.specs.Replays.{mostEmissions, Replayed}
-use Rattle.wave.specs.Calls.{level, roomy, lentWell, statusBefore, Cleared, Called}
+use Rattle.emissions.specs.Heads.{mostEmissions}
+use Rattle.wave.specs.Replays.{Replayed}
+use Rattle.wave.specs.Calls.{level, roomy, lentWell, statusBefore, Called}
 use Rattle.wave.specs.declared.call.Emitted.{Emitted}
 use Rattle.wave.proofs.Checking.{level-alike}
 

@@ -3,12 +3,11 @@
 -- small-negative, small-other: the test of a diff, by its sign. small-read: of a diff that was read into a local
 -- run-over, run-small: the test of a side, from its columns
 -- level-alike: what equal lengths mean
-use Prim.Native.Nat.{ℕ, suc, _≤_, _<_}
-use native.Mathlib.Omega.{arith}
+use Prim.Native.Nat.{ℕ, _≤_, _<_}
 use mathlib.Core.Bool.{Bool, true, false, _&&_}
 use mathlib.Core.List.{List, [], _∷_, map}
-use mathlib.Core.Path.{_≡_, refl, sym, _∙_, ap}
-use borrow.Author.Tests.{ltb-true, eqb-true, leb-true, leb-false, le-leb, lt-leb}
+use mathlib.Core.Path.{_≡_, refl, _∙_, ap}
+use borrow.Author.Tests.{eqb-true, le-leb, lt-leb}
 use lib.Dec.{eqb, leb}
 use lib.IntN.{ℤ, pos, negsuc, natAbs}
 use lib.ListN.{length}
@@ -17,7 +16,8 @@ use mir.Syntax.{w64}
 use mir.Val.{toZ, ofZ, SFits}
 use mir.Facts.{toZ-ofZ}
 use Rattle.grid.specs.Lists.{every}
-use Rattle.grid.proofs.Tests.{by-test, clash, and-l, and-r}
+use Rattle.grid.proofs.Tests.{and-l, and-r}
+use Rattle.grid.proofs.Signed.{size-negative, size-other}
 use Rattle.rules.specs.Histories.{Edit}
 use Rattle.rules.specs.Wave.{goodWaveRun}
 use Rattle.edits.specs.Edits.{edits, Alike}
@@ -25,27 +25,14 @@ use Rattle.edits.proofs.Edits.{diffOf, diffs-edits, length-edits}
 use Rattle.wave.specs.Calls.{level, smallDiff}
 
 -- ---- a diff
-leb-less : (n m : ℕ) → leb n m ≡ leb (suc n) (suc m)
-leb-less n m =
-    by-test (leb n m) (λ e. e ∙ sym (le-leb (suc n) (suc m) (omega (arith, leb-true n m e))))
-    (λ e. e ∙ sym (lt-leb (suc n) (suc m) (omega (arith, leb-false n m e))))
-
-negative : (z : ℤ) → ltZ z (pos 0) ≡ true → leZ (negsuc 1048575) z ≡ smallDiff z
-unfolding smallDiff
-negative (pos n) e = absurd (omega (arith, ltb-true n 0 e))
-negative (negsuc n) e = leb-less n 1048575
-
-other : (z : ℤ) → ltZ z (pos 0) ≡ false → leZ z (pos 1048576) ≡ smallDiff z
-unfolding smallDiff
-other (pos n) e = refl
-other (negsuc n) e = clash true refl e
-
 module _ {d : ℤ} (fits : SFits w64 d) where
   pub small-negative : ltZ (toZ w64 (ofZ w64 d)) (pos 0) ≡ true → leZ (negsuc 1048575) (toZ w64 (ofZ w64 d)) ≡ smallDiff d
-  small-negative = rw (toZ-ofZ fits) (negative d)
+  unfolding smallDiff
+  small-negative = rw (toZ-ofZ fits) (size-negative 1048575 d)
 
   pub small-other : ltZ (toZ w64 (ofZ w64 d)) (pos 0) ≡ false → leZ (toZ w64 (ofZ w64 d)) (pos 1048576) ≡ smallDiff d
-  small-other = rw (toZ-ofZ fits) (other d)
+  unfolding smallDiff
+  small-other = rw (toZ-ofZ fits) (size-other 1048576 d)
 
   pub small-read : {b : Bool} → b ≡ smallDiff (toZ w64 (ofZ w64 d)) → b ≡ smallDiff d
   small-read e = e ∙ ap smallDiff (toZ-ofZ fits)

@@ -23,7 +23,7 @@ use Rattle.histories.proofs.Suffixes.{suffixes-start}
 use Rattle.edits.specs.Edits.{edits, Alike}
 use Rattle.edits.specs.Buffers.{LoadsEdits, LentLoad}
 use Rattle.edits.proofs.Edits.{diffs-edits, length-edits, edits-take}
-use Rattle.wave.specs.Emissions.{mostEdits}
+use Rattle.emissions.specs.Emissions.{mostEdits}
 use Rattle.wave.specs.Replays.{Side, fresh}
 use Rattle.wave.specs.Calls.{Blank, SideLoaded}
 use Rattle.wave.proofs.Turns.{front-alike}

@@ -1,7 +1,6 @@
 -- The replay, turn after turn.
 --
 -- over-append: what is written after what was written. emits-none, emits-append: of the emissions in their columns
--- on-over, on-rest: what decides whether another turn is made. on-more, on-few: what follows if it is
 -- left: how many edits are ahead
 -- Replaying goal …: some of the emissions `goal` stand in the columns, and the rest is still to come. replaying-start, replaying-turn, replaying-end: the loop keeps that
 -- left-less: a turn leaves fewer edits ahead
@@ -10,24 +9,21 @@ use Prim.Native.Nat.{ℕ, suc, _+_, _-_, _≤_, _<_}
 use native.Mathlib.Omega.{arith}
 use native.Mathlib.Nat.{sub-zero}
 use mathlib.Core.Bool.{true, false}
-use mathlib.Core.List.{List, [], _∷_, _++_, map, append-assoc, append-nil}
+use mathlib.Core.List.{List, [], _∷_, _++_, map, append-assoc, append-nil, map-append}
 use mathlib.Core.Path.{_≡_, refl, sym, _∙_, ap, ap₂}
-use borrow.Author.Tests.{leb-true, ltb-true, ltb-false, le-leb, lt-leb, le-ltb, lt-ltb}
-use lib.Dec.{leb, ltb}
 use lib.IntN.{ℤ}
-use lib.ListN.{length, drop, set, length-append, length-map, length-drop}
-use Rattle.grid.proofs.Tests.{by-test, and-l, and-r}
+use lib.ListN.{length, set, length-append, length-map}
 use Rattle.rules.specs.Histories.{ValueHistory, loaded}
 use Rattle.rules.specs.Wave.{Emission, wave}
 use Rattle.histories.specs.Places.{historyOf}
 use Rattle.edits.specs.Edits.{edits}
-use Rattle.edits.proofs.Edits.{map-append}
-use Rattle.wave.specs.Emissions.{over}
-use Rattle.wave.specs.Heads.{headEarlier, chosenTimes}
+use Rattle.emissions.specs.Emissions.{over}
+use Rattle.emissions.specs.Heads.{mostEmissions, goesOn}
 use Rattle.wave.specs.Turns.{emittedTime, emittedFirst, emittedSecond, emittedDiff, Emits}
-use Rattle.wave.specs.Replays.{mostEmissions, turnEmits, firstAfter, secondAfter, Side, Turned, fresh, goesOn, Replayed}
-use Rattle.wave.specs.declared.replay.Stand.{Stand}
-use Rattle.wave.proofs.Replays.{wave-turn, head-first, head-second}
+use Rattle.wave.specs.Replays.{turnEmits, firstAfter, secondAfter, Side, Turned, fresh, Replayed}
+use Rattle.emissions.specs.declared.head.Stand.{Stand}
+use Rattle.emissions.proofs.Heads.{on-more, on-none}
+use Rattle.wave.proofs.Replays.{wave-turn}
 
 -- ---- columns
 over-append : {A : Type 0} (xs ys : List A) (k : ℕ) (s : List A) → over ys (k + length xs) (over xs k s) ≡ over (xs ++ ys) k s
@@ -43,7 +39,7 @@ column-append : {A : Type 0} (f : Emission → A) (xs ys : List Emission) (s : L
 column-append f xs ys s {s′} e d =
     let m : length (map f xs) ≡ length xs = length-map xs f in
     let n : length xs ≡ 0 + length (map f xs) = omega arith in
-    d ∙ ap₂ (λ k z. over (map f ys) k z) n e ∙ over-append (map f xs) (map f ys) 0 s ∙ ap (λ l. over l 0 s) (map-append f xs ys)
+    d ∙ ap₂ (λ k z. over (map f ys) k z) n e ∙ over-append (map f xs) (map f ys) 0 s ∙ ap (λ l. over l 0 s) (sym (map-append f xs ys))
 
 emits-append : (xs ys : List Emission) {count : ℕ} (times firsts seconds : List ℕ) (diffs : List ℤ) {times′ firsts′ seconds′ : List ℕ} {diffs′ : List ℤ} {times″ firsts″ seconds″ : List ℕ} {diffs″ : List ℤ}
     → count ≡ length xs → Emits xs 0 times firsts seconds diffs times′ firsts′ seconds′ diffs′ → Emits ys count times′ firsts′ seconds′ diffs′ times″ firsts″ seconds″ diffs″
@@ -56,38 +52,6 @@ emits-append xs ys {count} times firsts seconds diffs c v w =
       seconds-are = column-append emittedSecond xs ys seconds (v .seconds-are) (u .seconds-are);
       diffs-are = column-append emittedDiff xs ys diffs (v .diffs-are) (u .diffs-are);
     }
-
--- ---- whether another turn is made
-pub on-over : (a b : ℕ) (s : Stand) → mostEmissions < s .count → false ≡ goesOn a b s
-unfolding goesOn
-on-over a b s h = rw (lt-leb (s .count) mostEmissions h)
-
-module _ (ss : List ℕ) (i : ℕ) (ts : List ℕ) (j : ℕ) (u : i ≤ length ss) (v : j ≤ length ts) where
-  rest-ahead : ltb 0 (length (chosenTimes (drop i ss) (drop j ts))) ≡ ltb (i + j) (length ss + length ts)
-  unfolding chosenTimes
-  rest-ahead =
-      by-test (headEarlier (drop i ss) (drop j ts))
-      (λ e. let h : i < length ss = head-first ss i ts j e in rw (e, length-drop) (lt-ltb 0 (length ss - i) (omega arith) ∙ sym (lt-ltb (i + j) (length ss + length ts) (omega arith))))
-      (λ e. by-test (ltb (i + j) (length ss + length ts))
-      (λ t. let h : j < length ts = head-second ss i ts j e (ltb-true (i + j) (length ss + length ts) t) v in rw (e, t, length-drop) (lt-ltb 0 (length ts - j) (omega arith)))
-      (λ t. let h : length ss + length ts ≤ i + j = ltb-false (i + j) (length ss + length ts) t in rw (e, t, length-drop) (le-ltb 0 (length ts - j) (omega arith))))
-
-  pub on-rest : (s : Stand) → s .first .at ≡ i → s .second .at ≡ j → s .count ≤ mostEmissions → {rest : List ℕ} → rest ≡ chosenTimes (drop i ss) (drop j ts) → ltb 0 (length rest) ≡ goesOn (length ss) (length ts) s
-  unfolding goesOn
-  on-rest s p q h e = rw (e, le-leb (s .count) mostEmissions h, p, q) rest-ahead
-
-module _ (a b : ℕ) (s : Stand) (e : goesOn a b s ≡ true) where
-  pub on-few : s .count ≤ mostEmissions
-  unfolding goesOn
-  on-few = leb-true (s .count) mostEmissions (and-l (leb (s .count) mostEmissions) (ltb (s .first .at + s .second .at) (a + b)) e)
-
-  pub on-more : s .first .at + s .second .at < a + b
-  unfolding goesOn
-  on-more = ltb-true (s .first .at + s .second .at) (a + b) (and-r (leb (s .count) mostEmissions) (ltb (s .first .at + s .second .at) (a + b)) e)
-
-on-none : (a b : ℕ) (s : Stand) → goesOn a b s ≡ false → s .count ≤ mostEmissions → a + b ≤ s .first .at + s .second .at
-unfolding goesOn
-on-none a b s e h = let f = rw (le-leb (s .count) mostEmissions h) at e in ltb-false (s .first .at + s .second .at) (a + b) f
 
 -- ---- the loop
 abbrev pub left : ℕ → ℕ → Stand → ℕ

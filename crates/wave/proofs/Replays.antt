@@ -2,7 +2,6 @@
 --
 -- wave-turn: the wave goes on with the histories after a turn. first-emits, second-emits: what a turn emits, by which history steps
 -- mirrored, emits-mirrored: the pairs of an edit with those of a buffer, the two columns of values swapped, are the pairs of the buffer with the edit
--- head-first, head-second: the head comparison over the columns tells which history steps, and that it has an edit ahead
 -- lent-turn: what a step asks. side-stepped, side-advanced: what the columns of each history keep
 -- turned-first, turned-second: a step is a turn
 use Prim.Native.Nat.{ℕ, suc, _+_, _-_, _≤_, _<_}
@@ -10,13 +9,12 @@ use native.Mathlib.Omega.{arith}
 use mathlib.Core.Bool.{Bool, true, false}
 use mathlib.Core.List.{List, [], _∷_, _++_, map, append-nil}
 use mathlib.Core.Path.{_≡_, refl, sym, _∙_, ap}
-use borrow.Author.Tests.{ltb-true, ltb-false}
-use lib.Dec.{ltb}
 use lib.IntN.{ℤ, pos, natAbs, *ℤ-comm}
-use lib.ListN.{length, take, drop, getD, length-drop, length-map, drop-of-length-le}
-use Rattle.grid.proofs.Tests.{by-test, clash}
+use lib.ListN.{length, take, drop, getD, length-drop, length-map}
+use Rattle.grid.proofs.Tests.{by-test}
 use Rattle.grid.proofs.Loops.{drop-more}
 use Rattle.grid.proofs.Times.{join-comm}
+use Rattle.grid.proofs.Operations.{map-drop}
 use Rattle.consolidation.specs.Entries.{mass}
 use Rattle.consolidation.proofs.Laws.{mass-entries}
 use Rattle.rules.specs.Histories.{Edit, ValueHistory, timeOf}
@@ -27,14 +25,14 @@ use Rattle.histories.specs.Places.{historyOf, Placed, StepsOne}
 use Rattle.histories.proofs.Suffixes.{suffixes-later}
 use Rattle.edits.specs.Edits.{edits, Alike}
 use Rattle.edits.specs.Buffers.{noEdit}
-use Rattle.edits.proofs.Edits.{diffOf, times-edits, diffs-edits, map-drop, length-edits, edits-ahead}
-use Rattle.wave.specs.Emissions.{mostEdits, mostDiff}
-use Rattle.wave.specs.Heads.{headEarlier}
+use Rattle.edits.proofs.Edits.{diffOf, times-edits, diffs-edits, length-edits, edits-ahead}
+use Rattle.emissions.specs.Emissions.{mostEdits, mostDiff}
+use Rattle.emissions.specs.Heads.{headEarlier, mostEmissions}
 use Rattle.wave.specs.Turns.{emittedTime, emittedFirst, emittedSecond, emittedDiff, Emits, nextOf, LentTurn, Turns}
-use Rattle.wave.specs.Replays.{mostEmissions, turnEmits, firstAfter, secondAfter, Side, Turned}
-use Rattle.wave.specs.declared.replay.Stand.{Stand}
-use Rattle.wave.specs.declared.steps.Turn.{Turn}
-use Rattle.wave.proofs.Heads.{heads-edits}
+use Rattle.wave.specs.Replays.{turnEmits, firstAfter, secondAfter, Side, Turned}
+use Rattle.emissions.specs.declared.head.Stand.{Stand}
+use Rattle.wave.specs.declared.stepping.Turn.{Turn}
+use Rattle.emissions.proofs.Heads.{heads-edits, head-first, head-second}
 use Rattle.wave.proofs.Turns.{front-diffs}
 
 -- ---- a turn of the definition
@@ -94,18 +92,7 @@ module _ (x : Edit) where
 
 -- ---- the head comparison, from the columns
 times-ahead : (ts vs : List ℕ) (ds : List ℤ) → Alike ts vs ds → (i : ℕ) → map timeOf (drop i (edits ts vs ds)) ≡ drop i ts
-times-ahead ts vs ds a i = sym (map-drop timeOf i (edits ts vs ds)) ∙ ap (drop i) (times-edits ts vs ds a)
-
-module _ (ss : List ℕ) (i : ℕ) (ts : List ℕ) (j : ℕ) where
-  pub head-first : headEarlier (drop i ss) (drop j ts) ≡ true → i < length ss
-  unfolding headEarlier
-  head-first e = by-test (ltb i (length ss)) (λ t. ltb-true i (length ss) t) (λ t. let n : drop i ss ≡ [] = drop-of-length-le ss {i = i} (ltb-false i (length ss) t) in clash false (rw n at e) refl)
-
-  pub head-second : headEarlier (drop i ss) (drop j ts) ≡ false → i + j < length ss + length ts → j ≤ length ts → j < length ts
-  unfolding headEarlier
-  head-second e h w =
-      by-test (ltb j (length ts)) (λ t. ltb-true j (length ts) t)
-      (λ t. let k : length ts ≤ j = ltb-false j (length ts) t in let n : drop j ts ≡ [] = drop-of-length-le ts {i = j} k in clash true refl (rw (n, drop-more ss i 0 (omega arith)) at e))
+times-ahead ts vs ds a i = map-drop timeOf i (edits ts vs ds) ∙ ap (drop i) (times-edits ts vs ds a)
 
 module _ {ts vs : List ℕ} {ds : List ℤ} {us ws : List ℕ} {es : List ℤ} (a : Alike ts vs ds) (b : Alike us ws es) (p q : Place) where
   heads-told : {t : Bool} → t ≡ headEarlier (drop (p .at) ts) (drop (q .at) us) → firstSteps (historyOf (edits ts vs ds) p .ahead) (historyOf (edits us ws es) q .ahead) ≡ t
@@ -119,7 +106,7 @@ module _ {ts vs : List ℕ} {ds : List ℤ} {ms : List ℕ} {p : Place} (s : Sid
   ahead-small h =
       let E = edits ts vs ds in
       let d : length ds ≡ length ts = s .alike .diffs in
-      let e : map diffOf (drop (p .at) E) ≡ getD ds (p .at) (pos 0) ∷ drop (p .at + 1) ds = sym (map-drop diffOf (p .at) E) ∙ ap (drop (p .at)) (diffs-edits ts vs ds (s .alike)) ∙ drop-more ds (p .at) (pos 0) (omega arith) in
+      let e : map diffOf (drop (p .at) E) ≡ getD ds (p .at) (pos 0) ∷ drop (p .at + 1) ds = map-drop diffOf (p .at) E ∙ ap (drop (p .at)) (diffs-edits ts vs ds (s .alike)) ∙ drop-more ds (p .at) (pos 0) (omega arith) in
       omega (arith, s .light .most, mass-entries (drop (p .at) E) ∙ ap mass e)
 
   buffer-small : mass (take (p .count) ds) ≤ mostDiff

@@ -14,6 +14,7 @@ use mir.Syntax.{w64}
 use mir.Val.{toZ, ofZ}
 use Rattle.grid.specs.Times.{join, meets}
 use Rattle.grid.proofs.Sizes.{sizing-natAbs}
+use Rattle.grid.proofs.Operations.{map-drop}
 use Rattle.consolidation.specs.Entries.{mass}
 use Rattle.consolidation.proofs.Laws.{mass-entries}
 use Rattle.rules.specs.Histories.{Edit, timeOf, valueOf, advanceEdits}
@@ -23,10 +24,10 @@ use Rattle.histories.specs.declared.Place.{Place}
 use Rattle.histories.specs.Places.{historyOf, StepsOne}
 use Rattle.edits.specs.Edits.{edits, Alike}
 use Rattle.edits.specs.Buffers.{noEdit, AdvancesEdits}
-use Rattle.edits.proofs.Edits.{diffOf, times-edits, values-edits, diffs-edits, map-drop, length-edits, edits-take}
-use Rattle.wave.specs.Emissions.{over, mostDiff, Pairs, LentPairs}
-use Rattle.wave.specs.Turns.{emittedTime, emittedFirst, emittedSecond, emittedDiff, Emits, LentEdit, LentOther, LentTurn, Turns}
-use Rattle.wave.proofs.Emissions.{small-back, small-still}
+use Rattle.edits.proofs.Edits.{diffOf, times-edits, values-edits, diffs-edits, length-edits, edits-take}
+use Rattle.emissions.specs.Emissions.{over, mostDiff, Pairs, LentPairs, LentOther}
+use Rattle.wave.specs.Turns.{emittedTime, emittedFirst, emittedSecond, emittedDiff, Emits, LentEdit, LentTurn, Turns}
+use Rattle.emissions.proofs.Emissions.{small-back, small-still}
 
 -- ---- the columns of one edit's emissions
 module _ (e : Edit) where
@@ -154,7 +155,7 @@ module _ {ts vs : List ℕ} {ds : List ℤ} {ms : List ℕ} {p : Place} {us ws :
         ∙ drop-drop (q .at - q .count) (q .count) (edits us ws es) ∙ ap (λ k. drop k (edits us ws es)) m
 
     meets-ahead : meets (map timeOf (drop (p .at) (edits ts vs ds))) none ≡ meets (drop (p .at) ts) none
-    meets-ahead = ap (λ x. meets x none) (sym (map-drop timeOf (p .at) (edits ts vs ds)) ∙ ap (drop (p .at)) (times-edits ts vs ds (l .alike)))
+    meets-ahead = ap (λ x. meets x none) (map-drop timeOf (p .at) (edits ts vs ds) ∙ ap (drop (p .at)) (times-edits ts vs ds (l .alike)))
 
     buffer-is : take n (edits us′ ws′ es′) ≡ advancedBy (historyOf (edits ts vs ds) p) (historyOf (edits us ws es) q) .buffer
     unfolding advancedBy historyOf

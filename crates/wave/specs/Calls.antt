@@ -5,7 +5,6 @@
 -- level: three columns are of one length. roomy: the four columns of results are long enough. lentWell: columns and memory are as long as they must be
 -- smallDiff: a diff is from -2^20 to 2^20
 -- statusBefore: the status that a call has before any work
--- Cleared: four columns are all zero
 -- Called w …: the answer w was given, and the four columns hold what it leaves
 -- emissions: what four columns hold
 use Prim.Native.Nat.{ℕ, _≤_}
@@ -15,14 +14,15 @@ use mathlib.Core.Option.{none}
 use mathlib.Core.Path.{_≡_}
 use lib.Dec.{eqb, leb}
 use lib.IntN.{ℤ, pos, natAbs}
-use lib.ListN.{length, take, replicate}
+use lib.ListN.{length, take}
 use Rattle.rules.specs.Histories.{Edit, loadEdits}
 use Rattle.rules.specs.Memory.{leaves}
 use Rattle.rules.specs.Wave.{Emission, goodWaveRun, WaveAnswer}
 use Rattle.edits.specs.Edits.{edits}
 use Rattle.wave.specs.Turns.{emittedTime, emittedFirst, emittedSecond, emittedDiff}
-use Rattle.wave.specs.Emissions.{mostEdits}
-use Rattle.wave.specs.Replays.{mostEmissions, Side, fresh}
+use Rattle.emissions.specs.Emissions.{mostEdits}
+use Rattle.emissions.specs.Heads.{mostEmissions}
+use Rattle.wave.specs.Replays.{Side, fresh}
 use Rattle.wave.specs.declared.call.Emitted.{Emitted}
 
 pub record Blank (ts vs : List ℕ) (ds : List ℤ) (ms : List ℕ) : Type 0 where
@@ -53,12 +53,6 @@ unfoldable pub statusBefore : Bool → List Edit → List Edit → ℕ
 statusBefore lent as′ bs = cond lent (cond (goodWaveRun as′ && goodWaveRun bs) 0 14) 11
 
 -- ---- the answer
-pub record Cleared (times firsts seconds : List ℕ) (diffs : List ℤ) (times′ firsts′ seconds′ : List ℕ) (diffs′ : List ℤ) : Type 0 where
-  pub times-are : times′ ≡ replicate (length times) 0
-  pub firsts-are : firsts′ ≡ replicate (length firsts) 0
-  pub seconds-are : seconds′ ≡ replicate (length seconds) 0
-  pub diffs-are : diffs′ ≡ replicate (length diffs) (pos 0)
-
 pub record Called (w : WaveAnswer) (times firsts seconds : List ℕ) (diffs : List ℤ) (times′ firsts′ seconds′ : List ℕ) (diffs′ : List ℤ) (r : Emitted) : Type 0 where
   pub status-is : r .status ≡ w .status
   pub count-is : r .count ≡ length (w .emitted)

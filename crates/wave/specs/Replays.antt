@@ -1,17 +1,14 @@
 -- The wave, turn by turn, over the columns of two histories.
 --
--- mostEmissions: at most so many emissions
 -- turnEmits h k: what one turn emits. firstAfter h k, secondAfter h k: the two histories after it
 -- Side: what the columns of a history, its suffix meets and its place keep
 -- Turned: one turn was made
 -- fresh: the place of a history of which nothing was replayed
--- goesOn a b s: of histories of a and b edits, another turn is made at s: the emissions are not too many yet, and an edit is ahead
 -- Replayed goal … r: the emissions `goal` were written to four columns, r of them; or they are too many, and so is r
 use Prim.Native.Nat.{ℕ, suc, _+_, _≤_, _<_}
-use mathlib.Core.Bool.{Bool, cond, _&&_}
+use mathlib.Core.Bool.{cond}
 use mathlib.Core.List.{List}
 use mathlib.Core.Path.{_≡_}
-use lib.Dec.{leb, ltb}
 use lib.IntN.{ℤ}
 use lib.ListN.{length, take}
 use Rattle.rules.specs.Histories.{Edit, ValueHistory}
@@ -21,12 +18,10 @@ use Rattle.histories.specs.declared.Place.{Place}
 use Rattle.histories.specs.Places.{historyOf, Placed}
 use Rattle.histories.specs.Suffixes.{Suffixes}
 use Rattle.edits.specs.Edits.{edits, Alike}
-use Rattle.wave.specs.Emissions.{mostEdits}
+use Rattle.emissions.specs.Emissions.{mostEdits}
+use Rattle.emissions.specs.Heads.{mostEmissions}
 use Rattle.wave.specs.Turns.{Emits}
-use Rattle.wave.specs.declared.replay.Stand.{Stand}
-
-abbrev pub mostEmissions : ℕ
-mostEmissions = 4096
+use Rattle.emissions.specs.declared.head.Stand.{Stand}
 
 unfoldable pub turnEmits : ValueHistory → ValueHistory → List Emission
 turnEmits h k = cond (firstSteps (h .ahead) (k .ahead)) (cross (take 1 (h .ahead)) (advancedBy h k .buffer)) (cross (advancedBy k h .buffer) (take 1 (k .ahead)))
@@ -54,9 +49,6 @@ pub record Turned (es fs : List Edit) (s : Stand) (times firsts seconds : List �
 -- ---- the loop
 abbrev pub fresh : Place
 fresh = record { count = 0; at = 0 }
-
-unfoldable pub goesOn : ℕ → ℕ → Stand → Bool
-goesOn a b s = leb (s .count) mostEmissions && ltb (s .first .at + s .second .at) (a + b)
 
 pub record Replayed (goal : List Emission) (times firsts seconds : List ℕ) (diffs : List ℤ) (times′ firsts′ seconds′ : List ℕ) (diffs′ : List ℤ) (r : ℕ) : Type 0 where
   pub over : mostEmissions < r → mostEmissions < length goal

@@ -1,29 +1,19 @@
 // "bilinear_wave": the whole call.
-use crate::MOST_EMISSIONS;
 use crate::checks::status_before;
 use crate::loads::emit_all;
-use slices::clear;
-use slices::clear_diffs;
+use emissions::MOST_EMISSIONS;
+use emissions::clear_columns;
 ghost use mathlib.Core.Bool.{true};
 ghost use mathlib.Core.Path.{_≡_};
 ghost use Rattle.rules.specs.Wave.{waveCall};
 ghost use Rattle.rules.proofs.Wave.{WaveRun};
 ghost use Rattle.edits.specs.Edits.{edits, Alike};
-ghost use Rattle.wave.specs.Calls.{roomy, lentWell, Cleared, Called};
+ghost use Rattle.wave.specs.Calls.{roomy, lentWell, Called};
 
 // The status, and how many pairs were emitted.
 pub struct Emitted {
     pub status: u64,
     pub count: usize,
-}
-
-fn clear_columns(times: &mut [u64], firsts: &mut [u64], seconds: &mut [u64], diffs: &mut [i64])
-    ensures { λ _. ⌜ Cleared (now (times .entry)) (now (firsts .entry)) (now (seconds .entry)) (now (diffs .entry)) (now (times .exit)) (now (firsts .exit)) (now (seconds .exit)) (now (diffs .exit)) ⌝ }
-{
-    clear(times);
-    clear(firsts);
-    clear(seconds);
-    clear_diffs(diffs);
 }
 
 // A call that passed the checks.

@@ -1,6 +1,6 @@
 // What is checked before anything is written: "Memory too short is 11; at most 1,024 edits a side with diffs -2^20 to 2^20 (else 14)".
-use crate::MOST_EDITS;
-use crate::MOST_EMISSIONS;
+use emissions::MOST_EDITS;
+use emissions::MOST_EMISSIONS;
 ghost use mathlib.Core.Path.{_≡_};
 ghost use Rattle.grid.specs.Lists.{every};
 ghost use Rattle.rules.specs.Wave.{goodWaveRun};

@@ -1,7 +1,7 @@
 // Both sides loaded and replayed.
-use crate::MOST_EDITS;
 use crate::replay::replay;
 use edits::load_edits;
+use emissions::MOST_EDITS;
 use histories::suffix_meets;
 use times::Meet;
 ghost use Rattle.rules.specs.Wave.{waveOf};

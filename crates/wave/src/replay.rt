@@ -1,23 +1,16 @@
 // Two histories replayed together.
-use crate::MOST_EMISSIONS;
-use crate::head::first_steps;
-use crate::head::head_first;
-use crate::steps::step_beside;
+use crate::stepping::step_beside;
+use emissions::Stand;
+use emissions::first_steps;
+use emissions::goes_on;
 use histories::Place;
-ghost use mathlib.Core.Path.{_≡_};
 ghost use Prim.Native.Nat.{_+_, _≤_, _<_};
 ghost use lib.ListN.{length};
 ghost use Rattle.rules.specs.Histories.{loaded};
 ghost use Rattle.rules.specs.Wave.{wave};
 ghost use Rattle.edits.specs.Edits.{edits};
-ghost use Rattle.wave.specs.Replays.{mostEmissions, Side, Turned, fresh, goesOn, Replayed};
-
-// Where the two histories stand, and how many pairs were emitted so far.
-pub struct Stand {
-    pub first: Place,
-    pub second: Place,
-    pub count: usize,
-}
+ghost use Rattle.emissions.specs.Heads.{mostEmissions};
+ghost use Rattle.wave.specs.Replays.{Side, Turned, fresh, Replayed};
 
 // Steps the history whose head is strictly earlier, else the second. An emission's first value is the first history's, whichever steps.
 fn turn(
@@ -92,20 +85,6 @@ fn turn(
         second,
         count: t.count,
     }
-}
-
-// Whether another turn is made: the emissions are not too many yet, and of the history that steps something remains.
-fn goes_on<'a>(first: &'a [u64], second: &'a [u64], s: Stand) -> bool
-    requires { ⌜ (s .first .at ≤ length (now first)) × (s .second .at ≤ length (now second)) ⌝ }
-    ensures { λ r. ⌜ r ≡ goesOn (length (now (first .entry))) (length (now (second .entry))) s ⌝ }
-{
-    if s.count > MOST_EMISSIONS {
-        return false;
-    }
-    let p = s.first;
-    let q = s.second;
-    let rest = head_first(first, p.at, second, q.at);
-    rest.len() > 0
 }
 
 // Replays two histories from their beginning, and appends the pairs to four columns. Returns how many there are. Once they are too many, it

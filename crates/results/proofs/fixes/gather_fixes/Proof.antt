@@ -1,4 +1,4 @@
-use Rattle.results.specs.Parts.{laidAt, columnAt}
+use Rattle.placing.specs.Parts.{laidAt, columnAt}
 use mathlib.Core.Path.{_∙_, ap}
 use borrow.Author.Needs.{needs}
 use Rattle.results.proofs.fixes.gather_fixes.Statement.{statement}

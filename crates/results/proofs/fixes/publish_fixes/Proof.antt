@@ -1,4 +1,4 @@
-use Rattle.results.proofs.Parts.{from-zero}
+use Rattle.placing.proofs.Parts.{from-zero}
 use Rattle.results.proofs.Sorted.{first-given, first-told}
 use Rattle.results.proofs.fixes.publish_fixes.Statement.{statement}
 use Rattle.results.proofs.fixes.publish_fixes.Tie as tie

@@ -1,5 +1,5 @@
 use Rattle.results.proofs.Sorted.{places-few, places-within}
-use Rattle.results.proofs.Parts.{from-zero, first-length}
+use Rattle.placing.proofs.Parts.{from-zero, first-length}
 use Rattle.results.proofs.Sorted.{fixes-told}
 use Rattle.results.proofs.fixes.write_fixes.Statement.{statement}
 use Rattle.results.proofs.fixes.write_fixes.Tie as tie

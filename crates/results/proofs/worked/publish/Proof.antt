@@ -1,5 +1,5 @@
 use Rattle.results.proofs.Told.{tiles-given, fixes-given}
-use Rattle.results.proofs.Parts.{from-zero}
+use Rattle.placing.proofs.Parts.{from-zero}
 use Rattle.results.proofs.Told.{lists-given, worked-told}
 use lib.ListN.{replicate}
 use mathlib.Core.Path.{_∙_}

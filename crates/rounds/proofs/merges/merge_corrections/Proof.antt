@@ -8,7 +8,7 @@ use Rattle.rounds.proofs.merges.merge_corrections.Statement.{statement}
 use Rattle.rounds.proofs.merges.merge_corrections.Tie as tie
 use Rattle.rounds.proofs.merges.merge_corrections.Reads as reads
 use Rattle.rounds.proofs.merges.merge_corrections.Lts as lts
-use Rattle.rounds.proofs.merges.takes_left.Reads as takes-left-reads
+use Rattle.sorting.proofs.left_first.Reads as left-first-reads
 
 abbrev Inv-loop : tie.InvT-loop
 Inv-loop uv ut ud cv cd t yv₀ yt₀ yd₀ at n m i₀ j₀ k₀ yv yt yd i j k = Mixing uv ut ud cv cd (t .0) at yv₀ yt₀ yd₀ yv yt yd i j k
@@ -29,16 +29,16 @@ add-loop-2 : tie.Need-add-loop-2 Inv-loop μ-loop
 add-loop-2 c = search needs
 
 -- src/merges.rt:46:12
-takes-left-requires : tie.Need-takes-left-requires Inv-loop μ-loop
-takes-left-requires c κs = search needs
+left-first-requires : tie.Need-left-first-requires Inv-loop μ-loop
+left-first-requires c κs = search needs
 
 -- src/merges.rt:47:21
 mul-yv : tie.Need-mul-yv Inv-loop μ-loop
-mul-yv c = search (needs, in-left (c .before .before .before .loop .inv) (sym (c .before .takes-left .ensures) ∙ c .if1 .taken) .0)
+mul-yv c = search (needs, in-left (c .before .before .before .loop .inv) (sym (c .before .left-first .ensures) ∙ c .if1 .taken) .0)
 
 -- src/merges.rt:47:21
 shared-slice-read-yv : tie.Need-shared-slice-read-yv Inv-loop μ-loop
-shared-slice-read-yv c = in-left (c .before .before .before .before .loop .inv) (sym (c .before .before .takes-left .ensures) ∙ c .before .if1 .taken) .0
+shared-slice-read-yv c = in-left (c .before .before .before .before .loop .inv) (sym (c .before .before .left-first .ensures) ∙ c .before .if1 .taken) .0
 
 -- src/merges.rt:47:13
 mul-yv-2 : tie.Need-mul-yv-2 Inv-loop μ-loop
@@ -50,11 +50,11 @@ slice-write-yv c = here-v (c .before .before .before .before .loop .inv) (c .bef
 
 -- src/merges.rt:48:21
 mul-yt : tie.Need-mul-yt Inv-loop μ-loop
-mul-yt c = search (needs, in-left (c .before .before .before .before .loop .inv) (sym (c .before .before .takes-left .ensures) ∙ c .before .if1 .taken) .1 .0)
+mul-yt c = search (needs, in-left (c .before .before .before .before .loop .inv) (sym (c .before .before .left-first .ensures) ∙ c .before .if1 .taken) .1 .0)
 
 -- src/merges.rt:48:21
 shared-slice-read-yt : tie.Need-shared-slice-read-yt Inv-loop μ-loop
-shared-slice-read-yt c = in-left (c .before .before .before .before .before .loop .inv) (sym (c .before .before .before .takes-left .ensures) ∙ c .before .before .if1 .taken) .1 .0
+shared-slice-read-yt c = in-left (c .before .before .before .before .before .loop .inv) (sym (c .before .before .before .left-first .ensures) ∙ c .before .before .if1 .taken) .1 .0
 
 -- src/merges.rt:48:13
 mul-yt-2 : tie.Need-mul-yt-2 Inv-loop μ-loop
@@ -66,11 +66,11 @@ slice-write-yt c = here-t (c .before .before .before .before .before .loop .inv)
 
 -- src/merges.rt:49:21
 mul-d : tie.Need-mul-d Inv-loop μ-loop
-mul-d c = search (needs, in-left (c .before .before .before .before .before .loop .inv) (sym (c .before .before .before .takes-left .ensures) ∙ c .before .before .if1 .taken) .1 .1)
+mul-d c = search (needs, in-left (c .before .before .before .before .before .loop .inv) (sym (c .before .before .before .left-first .ensures) ∙ c .before .before .if1 .taken) .1 .1)
 
 -- src/merges.rt:49:21
 shared-slice-copy-out-d : tie.Need-shared-slice-copy-out-d Inv-loop μ-loop
-shared-slice-copy-out-d c = in-left (c .before .before .before .before .before .loop .inv) (sym (c .before .before .before .takes-left .ensures) ∙ c .before .before .if1 .taken) .1 .1
+shared-slice-copy-out-d c = in-left (c .before .before .before .before .before .loop .inv) (sym (c .before .before .before .left-first .ensures) ∙ c .before .before .if1 .taken) .1 .1
 
 -- src/merges.rt:50:13
 mul-d-2 : tie.Need-mul-d-2 Inv-loop μ-loop
@@ -94,15 +94,15 @@ loop-less c = search needs
 
 -- src/merges.rt:45:5
 loop-again : tie.Need-loop-again Inv-loop μ-loop
-loop-again c = mix-left (c .before .before .before .before .before .before .loop .inv) _ (c .before .before .before .before .before .loop-test .taken) (sym (c .before .before .before .before .takes-left .ensures) ∙ c .before .before .before .if1 .taken) (back (c .d .given))
+loop-again c = mix-left (c .before .before .before .before .before .before .loop .inv) _ (c .before .before .before .before .before .loop-test .taken) (sym (c .before .before .before .before .left-first .ensures) ∙ c .before .before .before .if1 .taken) (back (c .d .given))
 
 -- src/merges.rt:54:21
 mul-yv-3 : tie.Need-mul-yv-3 Inv-loop μ-loop
-mul-yv-3 c = search (needs, in-right (c .before .before .before .loop .inv) (c .before .before .loop-test .taken) (sym (c .before .takes-left .ensures) ∙ c .if1 .left) .0)
+mul-yv-3 c = search (needs, in-right (c .before .before .before .loop .inv) (c .before .before .loop-test .taken) (sym (c .before .left-first .ensures) ∙ c .if1 .left) .0)
 
 -- src/merges.rt:54:21
 shared-slice-read-yv-2 : tie.Need-shared-slice-read-yv-2 Inv-loop μ-loop
-shared-slice-read-yv-2 c = in-right (c .before .before .before .before .loop .inv) (c .before .before .before .loop-test .taken) (sym (c .before .before .takes-left .ensures) ∙ c .before .if1 .left) .0
+shared-slice-read-yv-2 c = in-right (c .before .before .before .before .loop .inv) (c .before .before .before .loop-test .taken) (sym (c .before .before .left-first .ensures) ∙ c .before .if1 .left) .0
 
 -- src/merges.rt:54:13
 mul-yv-4 : tie.Need-mul-yv-4 Inv-loop μ-loop
@@ -122,11 +122,11 @@ slice-write-yt-2 c = here-t (c .before .before .before .before .loop .inv) (c .b
 
 -- src/merges.rt:56:21
 mul-d-3 : tie.Need-mul-d-3 Inv-loop μ-loop
-mul-d-3 c = search (needs, in-right (c .before .before .before .before .loop .inv) (c .before .before .before .loop-test .taken) (sym (c .before .before .takes-left .ensures) ∙ c .before .if1 .left) .1)
+mul-d-3 c = search (needs, in-right (c .before .before .before .before .loop .inv) (c .before .before .before .loop-test .taken) (sym (c .before .before .left-first .ensures) ∙ c .before .if1 .left) .1)
 
 -- src/merges.rt:56:21
 shared-slice-copy-out-d-2 : tie.Need-shared-slice-copy-out-d-2 Inv-loop μ-loop
-shared-slice-copy-out-d-2 c = in-right (c .before .before .before .before .loop .inv) (c .before .before .before .loop-test .taken) (sym (c .before .before .takes-left .ensures) ∙ c .before .if1 .left) .1
+shared-slice-copy-out-d-2 c = in-right (c .before .before .before .before .loop .inv) (c .before .before .before .loop-test .taken) (sym (c .before .before .left-first .ensures) ∙ c .before .if1 .left) .1
 
 -- src/merges.rt:57:13
 mul-d-4 : tie.Need-mul-d-4 Inv-loop μ-loop
@@ -150,7 +150,7 @@ loop-less-2 c = search needs
 
 -- src/merges.rt:45:5
 loop-again-2 : tie.Need-loop-again-2 Inv-loop μ-loop
-loop-again-2 c = mix-right (c .before .before .before .before .before .loop .inv) _ (c .before .before .before .before .loop-test .taken) (sym (c .before .before .before .takes-left .ensures) ∙ c .before .before .if1 .left) (back (c .d2 .given))
+loop-again-2 c = mix-right (c .before .before .before .before .before .loop .inv) _ (c .before .before .before .before .loop-test .taken) (sym (c .before .before .before .left-first .ensures) ∙ c .before .before .if1 .left) (back (c .d2 .given))
 
 -- src/merges.rt:25:1
 same-length : tie.Need-same-length Inv-loop μ-loop
@@ -177,7 +177,7 @@ merge-corrections-spec =
     loop-holds
     add-loop
     add-loop-2
-    takes-left-requires
+    left-first-requires
     mul-yv
     shared-slice-read-yv
     mul-yv-2

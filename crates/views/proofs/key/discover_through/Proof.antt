@@ -45,7 +45,7 @@ use Rattle.discover.proofs.discover_key.Met as discover-key-thm
 use Rattle.views.specs.declared.key.KeyView.{KeyView}
 use Rattle.views.proofs.key.KeyView as T
 use Rattle.views.proofs.key.KeyView.Laws as T′
-use Rattle.views.proofs.Said.{stays-said, fits-said, go-said}
+use Rattle.cursor.proofs.Said.{stays-said, fits-said, go-said}
 use Rattle.views.proofs.key.discover_through.Key.{name as #views·discover-through}
 use Rattle.views.proofs.key.discover_through as through
 use Rattle.views.proofs.key.discover_through.Statement as stated

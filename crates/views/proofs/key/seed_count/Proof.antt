@@ -33,7 +33,7 @@ use denote.Triple.Table.{entered}
 use denote.Triple.Walked.{says, Stays, walkOf, Walks, ends-at, walked, walk-meets}
 use Rattle.views.proofs.key.KeyView as T
 use Rattle.views.proofs.key.KeyView.Laws as T′
-use Rattle.views.proofs.Said.{stays-said, go-said}
+use Rattle.cursor.proofs.Said.{stays-said, go-said}
 use Rattle.views.proofs.key.seed_count.Key.{name as #views·seed-count}
 use Rattle.views.proofs.key.seed_count as seed-count
 use Rattle.views.proofs.key.seed_count.Statement as stated

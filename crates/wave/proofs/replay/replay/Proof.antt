@@ -4,7 +4,8 @@ use lib.ListN.{length}
 use Rattle.rules.specs.Histories.{loaded}
 use Rattle.rules.specs.Wave.{wave}
 use Rattle.edits.specs.Edits.{edits}
-use Rattle.wave.proofs.Replaying.{on-few, on-more, left, Replaying, replaying-start, replaying-within, left-less, replaying-turn, replaying-end, Long, long-start}
+use Rattle.emissions.proofs.Heads.{on-few, on-more}
+use Rattle.wave.proofs.Replaying.{left, Replaying, replaying-start, replaying-within, left-less, replaying-turn, replaying-end, Long, long-start}
 use Rattle.wave.proofs.replay.replay.Statement.{statement}
 use Rattle.wave.proofs.replay.replay.Tie as tie
 

@@ -1,0 +1,6 @@
+pub mod Summing
+pub mod Shown
+pub mod Passing
+pub mod Seen
+pub mod Showing
+pub mod Taking
