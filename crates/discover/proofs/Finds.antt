@@ -10,7 +10,7 @@ use Rattle.rules.specs.Histories.{Edit}
 use Rattle.rules.specs.Discover.{State, start, run, discover}
 use Rattle.rules.proofs.Fuel.{measure}
 use Rattle.steps.specs.Walks.{overOf, stateOf}
-use Rattle.steps.specs.declared.Walk.{Walk}
+use Rattle.pops.specs.declared.Walk.{Walk}
 use Rattle.discover.specs.Walking.{Ended, Begun}
 use Rattle.discover.specs.Finding.{Finds}
 use Rattle.discover.specs.declared.Found.{Found}

@@ -24,8 +24,9 @@ use Rattle.histories.proofs.Suffixes.{length-suffixMeets, meets-suffix}
 use Rattle.consolidation.specs.Entries.{mass, mostMass}
 use Rattle.edits.specs.Edits.{edits, Alike}
 use Rattle.edits.proofs.Edits.{edits-take, diffs-edits}
-use Rattle.steps.specs.Walks.{stateOf, weight, Worked}
-use Rattle.steps.specs.declared.Walk.{Walk}
+use Rattle.pops.specs.Standing.{weight}
+use Rattle.steps.specs.Walks.{stateOf, Worked}
+use Rattle.pops.specs.declared.Walk.{Walk}
 use Rattle.steps.proofs.Weights.{weight-load}
 use Rattle.discover.specs.Walking.{Kept, firstWalk, firstState}
 use Rattle.discover.specs.Finding.{Loading, allMeets, Lending, Prepared}

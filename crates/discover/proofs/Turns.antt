@@ -11,6 +11,7 @@ use mathlib.Core.Option.{Option, none, some}
 use mathlib.Core.Path.{_≡_, refl, sym, _∙_, ap}
 use lib.IntN.{ℤ}
 use lib.ListN.{length, take, drop}
+use Rattle.grid.proofs.Operations.{map-drop}
 use Rattle.times.specs.Meets.{optional}
 use Rattle.times.specs.declared.optional.Meet.{Meet}
 use Rattle.rules.specs.Histories.{timeOf}
@@ -18,9 +19,10 @@ use Rattle.rules.specs.Discover.{State, least, heads, next}
 use Rattle.rules.proofs.Fuel.{over-stops}
 use Rattle.histories.specs.Places.{historyOf}
 use Rattle.edits.specs.Edits.{edits, Alike}
-use Rattle.edits.proofs.Edits.{times-edits, map-drop}
-use Rattle.steps.specs.Walks.{overOf, stateOf, Standing, Known, Roomy, Worked, Calm, Steps}
-use Rattle.steps.specs.declared.Walk.{Walk}
+use Rattle.edits.proofs.Edits.{times-edits}
+use Rattle.pops.specs.Standing.{Standing}
+use Rattle.steps.specs.Walks.{overOf, stateOf, Known, Roomy, Worked, Calm, Steps}
+use Rattle.pops.specs.declared.Walk.{Walk}
 use Rattle.discover.specs.Walking.{Kept, Short, Turned, stop, go}
 
 module _ (seeds pending times values : List ℕ) (diffs : List ℤ) (output waiting tracked moments pended : List ℕ) (p : Walk) where
@@ -40,7 +42,7 @@ module _ (seeds pending times values : List ℕ) (diffs : List ℤ) (output wait
       → next S ≡ o
   unfolding stateOf historyOf next heads
   next-is a e f =
-      let t : map timeOf (drop (p .input .at) (edits times values diffs)) ≡ drop (p .input .at) times = sym (map-drop timeOf (p .input .at) (edits times values diffs)) ∙ ap (drop (p .input .at)) (times-edits times values diffs a) in
+      let t : map timeOf (drop (p .input .at) (edits times values diffs)) ≡ drop (p .input .at) times = map-drop timeOf (p .input .at) (edits times values diffs) ∙ ap (drop (p .input .at)) (times-edits times values diffs a) in
       rw (e, t) (sym (rw sub-zero at f))
 
   pub none-stop : {upper : List ℕ} → Alike times values diffs → overOf p ≡ false → (o : Meet)

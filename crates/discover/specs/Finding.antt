@@ -18,7 +18,7 @@ use Rattle.rules.specs.Discover.{mostMoments, State}
 use Rattle.consolidation.specs.Entries.{mostMass}
 use Rattle.edits.specs.Edits.{edits, Alike}
 use Rattle.edits.specs.Buffers.{LentLoad}
-use Rattle.steps.specs.Walks.{weight}
+use Rattle.pops.specs.Standing.{weight}
 use Rattle.discover.specs.declared.loads.Loaded.{Loaded}
 use Rattle.discover.specs.declared.Found.{Found}
 

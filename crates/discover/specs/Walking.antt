@@ -17,8 +17,9 @@ use Rattle.grid.specs.Frontiers.{beyond}
 use Rattle.grid.proofs.Lists.{All}
 use Rattle.rules.specs.Discover.{State, next, run}
 use Rattle.rules.proofs.Fuel.{measure, Bounded}
-use Rattle.steps.specs.Walks.{stateOf, Standing, Known, Roomy, Worked, Steps}
-use Rattle.steps.specs.declared.Walk.{Walk}
+use Rattle.pops.specs.Standing.{Standing}
+use Rattle.steps.specs.Walks.{stateOf, Known, Roomy, Worked, Steps}
+use Rattle.pops.specs.declared.Walk.{Walk}
 use Rattle.times.specs.declared.optional.Meet.{Meet}
 
 pub record Kept (seeds seedm pending pendm times values : List ℕ) (diffs : List ℤ) (inputm output outputm waiting tracked moments pended work places wvalues : List ℕ) (wdiffs : List ℤ) (w : Walk) : Type 0 where

@@ -5,7 +5,7 @@ use crate::loads::load;
 use crate::loads::suffixes;
 use crate::walks::walk;
 use histories::Place;
-use steps::Walk;
+use pops::Walk;
 use steps::is_over;
 use times::Meet;
 ghost use mathlib.Core.Path.{_≡_};

@@ -1,6 +1,6 @@
 // "2. n is the least head of seeds, pending, input, output, waiting joins. None: stop." It stops, too, once a limit was passed.
 use joins::next_time;
-use steps::Walk;
+use pops::Walk;
 use steps::is_over;
 use steps::step;
 use times::Meet;

@@ -1,5 +1,6 @@
 // discover_times as a call: lengths and diffs are tested, one key's times are found, and the work memory is cleared.
 use crate::sizes::is_lent_well;
+use diffs::are_in_range;
 use discover::Found;
 use discover::discover_key;
 use slices::clear;
@@ -10,8 +11,6 @@ ghost use mathlib.Core.Path.{_≡_};
 ghost use Prim.Native.Nat.{_≤_};
 ghost use lib.IntN.{pos};
 ghost use lib.ListN.{length, replicate};
-ghost use Rattle.grid.specs.Lists.{every};
-ghost use Rattle.grid.specs.Records.{inRange};
 ghost use Rattle.discovery.specs.Calls.{lentWell, answer, statusBefore, keptOf, Publishes, Clears, Discovers};
 
 // The status, and how many moments and pended times there are.
@@ -19,29 +18,6 @@ pub struct Discovered {
     pub status: u64,
     pub moments: usize,
     pub pended: usize,
-}
-
-// Whether a diff is from -2^31 to 2^31.
-fn is_in_range(d: i64) -> bool
-    ensures { λ r. ⌜ r ≡ inRange d ⌝ }
-{
-    if d < 0 {
-        return d >= -2147483648;
-    }
-    d <= 2147483648
-}
-
-fn are_in_range(ds: &[i64]) -> bool
-    ensures { λ r. ⌜ r ≡ every inRange (now (ds .entry)) ⌝ }
-{
-    let mut i = 0;
-    while i < ds.len() {
-        if !is_in_range(ds[i]) {
-            return false;
-        }
-        i += 1;
-    }
-    true
 }
 
 // 11 if what is lent is not as long as it must be, 14 if a diff is out of range.

@@ -10,7 +10,7 @@ use Prim.Native.Nat.{ℕ, zero, suc, _+_, _-_, _*_, _≤_, _<_}
 use native.Mathlib.Numerals.{add-one}
 use native.Mathlib.Omega.{arith}
 use mathlib.Core.Bool.{Bool, true, false, _||_}
-use mathlib.Core.List.{List, [], _∷_, _++_, append-assoc, append-nil, map}
+use mathlib.Core.List.{List, [], _∷_, _++_, append-assoc, append-nil, map, map-append}
 use mathlib.Core.Path.{_≡_, refl, sym, _∙_, ap}
 use lib.Dec.{ltb}
 use mir.Syntax.{w64}
@@ -24,11 +24,12 @@ use Rattle.grid.proofs.Tests.{by-test, or-false-l}
 use Rattle.grid.proofs.Lists.{head}
 use Rattle.grid.proofs.Loops.{drop-more}
 use Rattle.grid.proofs.Slices.{Laying, laying-start, laying-more, laying-end}
+use Rattle.grid.proofs.Operations.{flat-append, any-append}
 use Rattle.rules.specs.Discover.{mostMoments, State, discover}
 use Rattle.consolidation.specs.Entries.{mass}
 use Rattle.edits.specs.Edits.{edits}
 use Rattle.backends.specs.Crossing.{part, ends, whole}
-use Rattle.backends.proofs.Columns.{map-append, all-drop, Writing, writing-start, writing-append, writing-end}
+use Rattle.backends.proofs.Columns.{all-drop, Writing, writing-start, writing-append, writing-end}
 use Rattle.backends.proofs.Segments.{part-length, ends-next}
 use Rattle.keys.specs.Spans.{Within}
 use Rattle.keys.specs.declared.Span.{Span}
@@ -220,15 +221,6 @@ module _ {seeds₀ times₀ values₀ : List ℕ} {diffs₀ : List ℤ} {output�
 or-true : (a : Bool) → (a || true) ≡ true
 or-true true = refl
 or-true false = refl
-
-module _ {A B : Type 0} (f : A → List B) where
-  flat-append : (xs ys : List A) → flat f (xs ++ ys) ≡ flat f xs ++ flat f ys
-  flat-append [] ys = refl
-  flat-append (x ∷ xs) ys = ap (λ l. f x ++ l) (flat-append xs ys) ∙ sym (append-assoc (f x) (flat f xs) (flat f ys))
-
-any-append : {A : Type 0} (p : A → Bool) (xs ys : List A) → any p (xs ++ ys) ≡ (any p xs || any p ys)
-any-append p [] ys = refl
-any-append p (x ∷ xs) ys = by-test (p x) (λ e. rw e) (λ e. rw e (any-append p xs ys))
 
 abbrev pendedOf : State → List ℕ
 pendedOf D = D .pended

@@ -1,11 +1,11 @@
 // A window's discovery: its keys' parts of the call's runs, their moments, and their pended times.
+mod all;
 mod next;
 mod searches;
 mod slots;
-mod windows;
 
+pub use all::find_window;
 pub use searches::search_window;
-pub use windows::find_window;
 
 // Where the searches in each of the runs of a call stand.
 pub struct Places {

@@ -3,11 +3,11 @@ use crate::Tally;
 use crate::next::MOST_RECORDS;
 use crate::next::append_pended;
 use discover::Found;
-use discover::discover_key;
 use keys::Span;
 use keys::diffs_part;
 use keys::key_part;
 use times::KeyHash;
+use views::discover_view;
 ghost use mathlib.Core.Path.{_≡_};
 ghost use lib.ListN.{length};
 ghost use Rattle.finding.specs.Tallies.{Scratch, LentTally, FindsSlot, pendedCount, Counts, Tallied};
@@ -87,7 +87,7 @@ pub fn find_key(
 {
     let m = p.moments;
     let end = moments.len();
-    let r = discover_key(
+    let r = discover_view(
         upper,
         key_part(newtimes, ns),
         key_part(pendingtimes, ps),

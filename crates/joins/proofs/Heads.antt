@@ -3,7 +3,7 @@
 -- lesser-less, lesser-more, lesser-none: the lesser of two times, the second of which may be absent
 -- head-some, head-none: the lesser of a head and another. least-five: the least of five heads
 -- meets-append: the meet of lists in a row. ahead-some, ahead-none: the same of what is ahead
--- meets-five: the meet of five lists in a row
+-- meets-four: the meet of four lists in a row. meets-last: the last of two lists may be met last
 use Prim.Native.Nat.{ℕ, _≤_, _<_}
 use native.Mathlib.Omega.{arith}
 use mathlib.Core.Bool.{true, false}
@@ -96,9 +96,21 @@ unfolding meets
 meets-append [] ys o = refl
 meets-append (x ∷ xs) ys o = ap (λ p. some (meetOnto x p)) (meets-append xs ys o)
 
-pub meets-five : (a b c d e : List ℕ) {v w x y z : Option ℕ} → v ≡ meets e none → w ≡ meets d v → x ≡ meets c w → y ≡ meets b x → z ≡ meets a y → z ≡ meets (a ++ (b ++ (c ++ (d ++ e)))) none
-meets-five a b c d e {v} {w} {x} {y} p q r s t =
-    let q′ : w ≡ meets (d ++ e) none = q ∙ ap (meets d) p ∙ meets-append d e none in
-    let r′ : x ≡ meets (c ++ (d ++ e)) none = r ∙ ap (meets c) q′ ∙ meets-append c (d ++ e) none in
-    let s′ : y ≡ meets (b ++ (c ++ (d ++ e))) none = s ∙ ap (meets b) r′ ∙ meets-append b (c ++ (d ++ e)) none in
-    t ∙ ap (meets a) s′ ∙ meets-append a (b ++ (c ++ (d ++ e))) none
+pub meets-four : (a b c d : List ℕ) {w x y z : Option ℕ} → w ≡ meets d none → x ≡ meets c w → y ≡ meets b x → z ≡ meets a y → z ≡ meets (a ++ (b ++ (c ++ d))) none
+meets-four a b c d {w} {x} {y} p q r s =
+    let q′ : x ≡ meets (c ++ d) none = q ∙ ap (meets c) p ∙ meets-append c d none in
+    let r′ : y ≡ meets (b ++ (c ++ d)) none = r ∙ ap (meets b) q′ ∙ meets-append b (c ++ d) none in
+    s ∙ ap (meets a) r′ ∙ meets-append a (b ++ (c ++ d)) none
+
+meet-comm : (s t : ℕ) → meet s t ≡ meet t s
+meet-comm s t = ext _ _ (simp hi-meet (omega arith)) (simp lo-meet (omega arith))
+
+both-comm : (o p : Option ℕ) → both o p ≡ both p o
+unfolding both meetOnto
+both-comm none none = refl
+both-comm none (some u) = refl
+both-comm (some t) none = refl
+both-comm (some t) (some u) = ap some (meet-comm t u)
+
+pub meets-last : (xs ys : List ℕ) → meets ys (meets xs none) ≡ meets (xs ++ ys) none
+meets-last xs ys = meets-after ys (meets xs none) ∙ both-comm (meets ys none) (meets xs none) ∙ sym (meets-after xs (meets ys none)) ∙ meets-append xs ys none

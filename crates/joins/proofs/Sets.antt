@@ -1,14 +1,14 @@
 -- The joins of a time with the times of a buffer, put into two sets.
 --
--- puts-append, keep-append, joins-append: lists in a row
+-- joins-append: lists in a row
 -- put-new, put-full: a time put into a set in lent memory, with room and without
 -- made-none, made-below, made-beyond, made-short: no join, and a single one. made-then: the joins with one list after those with another
 -- Making upper n buffer count i w wn w′ wn′ p pn p′ pn′: a loop has made the joins with the times from i on. making-start, making-more, making-end: the loop keeps that
 -- retracked-some, retracked-none: the tracked times joined with a meet that may be absent
 use Prim.Native.Nat.{ℕ, suc, _+_, _-_, _≤_, _<_}
 use native.Mathlib.Omega.{arith}
-use mathlib.Core.Bool.{Bool, true, false, not}
-use mathlib.Core.List.{List, [], _∷_, _++_, map, append-assoc}
+use mathlib.Core.Bool.{true, false, not}
+use mathlib.Core.List.{List, [], _∷_, _++_, map, append-assoc, map-append}
 use mathlib.Core.Option.{Option, none, some}
 use mathlib.Core.Path.{_≡_, refl, sym, _∙_, ap}
 use lib.Dec.{ltb, eqb}
@@ -19,24 +19,14 @@ use Rattle.grid.specs.Times.{join, joined, below, put, puts}
 use Rattle.grid.specs.Frontiers.{beyond, shortOf}
 use Rattle.grid.proofs.Tests.{by-test}
 use Rattle.grid.proofs.Ascending.{ascending-put}
+use Rattle.grid.proofs.Operations.{puts-append, keep-append, length-puts}
 use Rattle.distinct.specs.Sets.{Inserted, Removed}
 use Rattle.rules.specs.Histories.{advanceTimes}
 use Rattle.rules.specs.Discover.{mostMoments, joins}
-use Rattle.histories.specs.Advances.{Advances}
+use Rattle.advances.specs.Renewed.{Renewed}
+use Rattle.histories.proofs.Loads.{map-same}
 use native.Mathlib.Nat.{sub-zero}
 use Rattle.joins.specs.Sets.{Set, Grown, same, over, Put, Made}
-
-puts-append : (xs ys us : List ℕ) → puts (xs ++ ys) us ≡ puts xs (puts ys us)
-puts-append [] ys us = refl
-puts-append (x ∷ xs) ys us = ap (put x) (puts-append xs ys us)
-
-keep-append : (p : ℕ → Bool) (xs ys : List ℕ) → keep p (xs ++ ys) ≡ keep p xs ++ keep p ys
-keep-append p [] ys = refl
-keep-append p (x ∷ xs) ys = by-test (p x) (λ e. rw (e, keep-append p xs ys)) (λ e. rw (e, keep-append p xs ys))
-
-map-append : (f : ℕ → ℕ) (xs ys : List ℕ) → map f (xs ++ ys) ≡ map f xs ++ map f ys
-map-append f [] ys = refl
-map-append f (x ∷ xs) ys = ap (λ l. f x ∷ l) (map-append f xs ys)
 
 pub joins-append : (n : ℕ) (xs ys : List ℕ) → joins n (xs ++ ys) ≡ joins n xs ++ joins n ys
 unfolding joins
@@ -48,10 +38,6 @@ length-put t [] = (omega arith, omega arith)
 length-put t (u ∷ us) =
     let ih = length-put t us in
     by-test (ltb t u) (λ e. rw e (omega arith, omega arith)) (λ e. by-test (eqb t u) (λ e′. rw (e, e′) (omega arith, omega arith)) (λ e′. rw (e, e′) (omega (arith, ih .0), omega (arith, ih .1))))
-
-length-puts : (ts us : List ℕ) → length us ≤ length (puts ts us)
-length-puts [] us = omega arith
-length-puts (t ∷ ts) us = let ih = length-puts ts us in let k = length-put t (puts ts us) .0 in omega arith
 
 -- ---- a time put into a set
 pub set-within : {s : List ℕ} {count : ℕ} → Set s count → count ≤ length s
@@ -147,14 +133,9 @@ module _ {upper : List ℕ} {n : ℕ} {buffer : List ℕ} {count i : ℕ} {w : L
   making-end e = (m .sets, rw e at (m .made))
 
 -- ---- tracked times
-pub retracked-some : {o : Option ℕ} {x : ℕ} {count : ℕ} {s w s′ w′ : List ℕ} {r : ℕ} → o ≡ some x → Advances (some x) count s w s′ w′ r → (r ≤ count) × (take r s′ ≡ puts (map (joined o) (take count s)) [])
+pub retracked-some : {o : Option ℕ} {x : ℕ} {count : ℕ} {s s′ : List ℕ} {r : ℕ} → o ≡ some x → Renewed (advanceTimes (some x) (take count s)) count s s′ r → (r ≤ count) × (take r s′ ≡ puts (map (joined o) (take count s)) [])
 unfolding advanceTimes joined
 retracked-some e a = (a .within, rw e (a .buffer))
-
-map-same : (l : List ℕ) → map (joined none) l ≡ l
-unfolding joined
-map-same [] = refl
-map-same (x ∷ l) = ap (λ k. x ∷ k) (map-same l)
 
 length-distinct : (ts : List ℕ) → length (puts ts []) ≤ length ts
 length-distinct [] = omega arith

@@ -7,5 +7,5 @@ pub use made::MOST_MOMENTS;
 pub use made::join_both;
 pub use made::put_time;
 pub use made::retrack;
+pub use remaining::meet_of_four;
 pub use remaining::next_time;
-pub use remaining::remaining_meet;

@@ -1,7 +1,7 @@
 // Sets of waiting joins, pended times and tracked times.
+use advances::advance_times;
 use distinct::insert_distinct;
 use distinct::sort_distinct;
-use histories::advance_buffer_by;
 use times::Meet;
 use times::PackedTime;
 use times::is_beyond;
@@ -109,8 +109,11 @@ pub fn retrack(m: Meet, tracked: &mut [u64], count: usize, work: &mut [u64]) -> 
     requires { ⌜ (count ≤ length (now tracked)) × (count ≤ length (now work)) ⌝ }
     ensures { λ r. ⌜ (r ≤ count) × (take r (now (tracked .exit)) ≡ puts (map (joined (optional m)) (take count (now (tracked .entry)))) []) ⌝ }
 {
+    if count == 0 {
+        return 0;
+    }
     if let Meet::Present(p) = m {
-        return advance_buffer_by(tracked, count, Meet::Present(p), work);
+        return advance_times(tracked, count, Meet::Present(p), work);
     }
     sort_distinct(&mut tracked[0..count], &mut work[0..count])
 }

@@ -1,13 +1,11 @@
-// The least head, and the meet of all that remains.
+// The least head, and the meet of what is ahead.
 use times::Meet;
 use times::PackedTime;
-use times::meet_of;
 use times::meet_onto;
 ghost use mathlib.Core.List.{_++_};
 ghost use mathlib.Core.Option.{none};
 ghost use mathlib.Core.Path.{_≡_};
-ghost use Prim.Native.Nat.{_≤_};
-ghost use lib.ListN.{length, take, drop};
+ghost use lib.ListN.{take, drop};
 ghost use Rattle.grid.specs.Times.{meets};
 ghost use Rattle.times.specs.Meets.{optional};
 ghost use Rattle.rules.specs.Discover.{lesser, least};
@@ -69,8 +67,8 @@ fn meet_with(times: &[u64], suffixes: &[u64], at: usize, o: Meet) -> Meet
     o
 }
 
-// The meet of all that remains, absent if nothing does.
-pub fn remaining_meet(
+// The meet of what is ahead in the four histories, absent if nothing is. Waiting joins are met with it once those of this step are made.
+pub fn meet_of_four(
     seeds: &[u64],
     seedm: &[u64],
     sat: usize,
@@ -83,14 +81,12 @@ pub fn remaining_meet(
     output: &[u64],
     outputm: &[u64],
     oat: usize,
-    waiting: &[u64],
 ) -> Meet
     requires { ⌜ Suffixes (now seeds) (now seedm) sat × (Suffixes (now pending) (now pendm) pat × (Suffixes (now input) (now inputm) iat × Suffixes (now output) (now outputm) oat)) ⌝ }
-    ensures { λ r. ⌜ optional r ≡ meets (drop sat (now (seeds .entry)) ++ (drop pat (now (pending .entry)) ++ (drop iat (now (input .entry)) ++ (drop oat (now (output .entry)) ++ now (waiting .entry))))) none ⌝ }
+    ensures { λ r. ⌜ optional r ≡ meets (drop sat (now (seeds .entry)) ++ (drop pat (now (pending .entry)) ++ (drop iat (now (input .entry)) ++ drop oat (now (output .entry))))) none ⌝ }
 {
-    let a = meet_of(waiting);
-    let b = meet_with(output, outputm, oat, a);
-    let c = meet_with(input, inputm, iat, b);
-    let d = meet_with(pending, pendm, pat, c);
-    meet_with(seeds, seedm, sat, d)
+    let a = meet_with(output, outputm, oat, Meet::Absent);
+    let b = meet_with(input, inputm, iat, a);
+    let c = meet_with(pending, pendm, pat, b);
+    meet_with(seeds, seedm, sat, c)
 }

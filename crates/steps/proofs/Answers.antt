@@ -14,7 +14,7 @@ use Rattle.grid.specs.Frontiers.{beyond}
 use Rattle.grid.proofs.Tests.{by-test}
 use Rattle.rules.specs.Discover.{mostMoments}
 use Rattle.steps.specs.Walks.{overOf}
-use Rattle.steps.specs.declared.Walk.{Walk}
+use Rattle.pops.specs.declared.Walk.{Walk}
 
 module _ (w : Walk) where
   pub over-moments : mostMoments < w .moments → true ≡ overOf w

@@ -2,37 +2,34 @@
 --
 -- lent, settled: a moment. joined-only: short of upper and not interesting. pended-keen, pended-dull: beyond upper, interesting and not
 -- finished: the meet was taken, and the tracked times joined with it
-use Prim.Native.Nat.{ℕ, zero, suc, _+_, _-_, _≤_}
+use Prim.Native.Nat.{ℕ, _+_, _-_, _≤_}
 use native.Mathlib.Omega.{arith}
 use native.Mathlib.Nat.{sub-zero}
 use native.Mathlib.Numerals.{add-one}
 use mathlib.Core.Bool.{Bool, true, false}
 use mathlib.Core.List.{List, [], _∷_, _++_, map}
-use mathlib.Core.Option.{none}
+use mathlib.Core.Option.{Option}
 use mathlib.Core.Path.{_≡_, refl, sym, _∙_, ap}
 use lib.IntN.{ℤ}
-use lib.ListN.{length, take, drop, set}
+use lib.ListN.{length, take, set}
 use lib.Seq.{take-suc-set}
 use Rattle.grid.specs.Times.{joined, meets, put, puts}
 use Rattle.grid.specs.Frontiers.{beyond}
+use Rattle.grid.proofs.Operations.{map-take}
+use Rattle.grid.proofs.Slices.{drop-later}
 use Rattle.times.specs.Meets.{optional}
 use Rattle.times.specs.declared.optional.Meet.{Meet}
-use Rattle.rules.specs.Histories.{Edit, timeOf}
-use Rattle.histories.specs.Advances.{Advances}
-use Rattle.histories.proofs.Steps.{drop-later}
-use Rattle.edits.specs.Buffers.{AdvancesEdits, LentBuffer}
+use Rattle.rules.specs.Histories.{Edit, timeOf, advanceTimes, advanceEdits}
+use Rattle.edits.specs.Buffers.{LentBuffer}
 use Rattle.edits.specs.Edits.{edits, Alike}
 use Rattle.edits.proofs.Edits.{times-edits, diffs-edits}
+use Rattle.advances.specs.Renewed.{Renewed}
 use Rattle.joins.specs.Sets.{Set, Grown, same, over, Put, Made}
 use Rattle.joins.proofs.Sets.{made-then, joins-append}
 use Rattle.steps.specs.Parts.{madeOf, Acting, Finishing, Ready, recounted}
-use Rattle.steps.specs.Walks.{weight, Worked}
-use Rattle.steps.specs.declared.Walk.{Walk}
-
-map-take : {B : Type 0} (f : Edit → B) (i : ℕ) (E : List Edit) → map f (take i E) ≡ take i (map f E)
-map-take f zero E = refl
-map-take f (suc i) [] = refl
-map-take f (suc i) (e ∷ E) = ap (λ l. f e ∷ l) (map-take f i E)
+use Rattle.pops.specs.Standing.{weight}
+use Rattle.steps.specs.Walks.{Worked}
+use Rattle.pops.specs.declared.Walk.{Walk}
 
 module _ {seeds tracked times values : List ℕ} {diffs : List ℤ} {output waiting pended moments work places wvalues : List ℕ} {wdiffs : List ℤ} {q : Walk}
     (g : Ready seeds tracked times values diffs output waiting pended moments work places wvalues wdiffs q) where
@@ -60,21 +57,21 @@ module _ {seeds tracked times values : List ℕ} {diffs : List ℤ} {output wait
 
 module _ (upper : List ℕ) (n : ℕ) {seeds tracked times values : List ℕ} {diffs : List ℤ} {output waiting pended moments work places wvalues : List ℕ} {wdiffs : List ℤ} {q : Walk}
     (g : Ready seeds tracked times values diffs output waiting pended moments work places wvalues wdiffs q) where
-  pub settled : (times′ values′ : List ℕ) (diffs′ : List ℤ) {wl pl output′ work₁ work₂ waiting₂ pended₂ : List ℕ} {i o w₂ p₂ : ℕ}
+  pub settled : (m : Meet) (times′ values′ : List ℕ) (diffs′ : List ℤ) {wl pl output′ waiting₂ pended₂ : List ℕ} {i o w₂ p₂ : ℕ}
       → beyond upper n ≡ false
       → length times′ ≡ length times → length values′ ≡ length values → length diffs′ ≡ length diffs
-      → AdvancesEdits (optional (q .m)) (q .input .count) (edits times values diffs) (edits times′ values′ diffs′) i
-      → Advances (optional (q .m)) (q .output .count) output work₁ output′ work₂ o
+      → Renewed (advanceEdits (optional m) (take (q .input .count) (edits times values diffs))) (q .input .count) (edits times values diffs) (edits times′ values′ diffs′) i
+      → Renewed (advanceTimes (optional m) (take (q .output .count) output)) (q .output .count) output output′ o
       → Made upper n (take (q .seeds .count) seeds ++ take (q .tracked) tracked) (take (q .waiting) waiting) wl (take (q .pended) pended) pl
       → (Set waiting₂ w₂ × Set pended₂ p₂) × Made upper n (take i times′ ++ take o output′) wl (take w₂ waiting₂) pl (take p₂ pended₂)
-      → Acting upper n true (take (q .seeds .count) seeds) (take (q .tracked) tracked) (edits times values diffs) output waiting pended moments q (edits times′ values′ diffs′) output′ waiting₂ pended₂ (set moments (q .moments) n)
-      (record { seeds = q .seeds; pending = q .pending; input = record { count = i; at = q .input .at }; output = record { count = o; at = q .output .at }; waiting = w₂; tracked = q .tracked; moments = q .moments + 1; pended = p₂; m = q .m })
+      → Acting upper n true (optional m) (take (q .seeds .count) seeds) (take (q .tracked) tracked) (edits times values diffs) output waiting pended moments q (edits times′ values′ diffs′) output′ waiting₂ pended₂ (set moments (q .moments) n)
+      (record { seeds = q .seeds; pending = q .pending; input = record { count = i; at = q .input .at }; output = record { count = o; at = q .output .at }; waiting = w₂; tracked = q .tracked; moments = q .moments + 1; pended = p₂; m = m })
   unfolding madeOf
-  settled times′ values′ diffs′ {wl} {pl} {output′} {work₁} {work₂} {waiting₂} {pended₂} {i} {o} {w₂} {p₂} b lt lv ld x y u v =
+  settled m times′ values′ diffs′ {wl} {pl} {output′} {waiting₂} {pended₂} {i} {o} {w₂} {p₂} b lt lv ld x y u v =
       let a : Alike times values diffs = g .input-alike in
       let a′ : Alike times′ values′ diffs′ = record { values = lv ∙ a .values ∙ sym lt; diffs = ld ∙ a .diffs ∙ sym lt } in
       let t : map timeOf (take i (edits times′ values′ diffs′)) ≡ take i times′ = map-take timeOf i (edits times′ values′ diffs′) ∙ ap (take i) (times-edits times′ values′ diffs′ a′) in
-      let m : Made upper n ((take i times′ ++ take o output′) ++ (take (q .seeds .count) seeds ++ take (q .tracked) tracked)) (take (q .waiting) waiting) (take w₂ waiting₂) (take (q .pended) pended) (take p₂ pended₂) = made-then upper n u (v .1) in
+      let u′ : Made upper n ((take i times′ ++ take o output′) ++ (take (q .seeds .count) seeds ++ take (q .tracked) tracked)) (take (q .waiting) waiting) (take w₂ waiting₂) (take (q .pended) pended) (take p₂ pended₂) = made-then upper n u (v .1) in
       let j = joins-append n (take i times′ ++ take o output′) (take (q .seeds .count) seeds ++ take (q .tracked) tracked) in
       record {
         input-is = rw b (x .buffer);
@@ -85,8 +82,8 @@ module _ (upper : List ℕ) (n : ℕ) {seeds tracked times values : List ℕ} {d
         output-fewer = y .within;
         output-at = refl;
         output-ahead = drop-later output′ output (q .output .count) (q .output .at) (g .output-placed .behind) (y .same-ahead);
-        waiting-is = rw (b, t, ← j) (m .waits);
-        pended-is = rw (b, t, ← j) (m .pends);
+        waiting-is = rw (b, t, ← j) (u′ .waits);
+        pended-is = rw (b, t, ← j) (u′ .pends);
         moments-are = rw (b, add-one, take-suc-set moments (q .moments) n (g .moments-room));
         moments-counted = rw b;
         waiting-set = v .0 .0;
@@ -96,11 +93,11 @@ module _ (upper : List ℕ) (n : ℕ) {seeds tracked times values : List ℕ} {d
         same-tracked = refl;
       }
 
-module _ (upper : List ℕ) (n : ℕ) (keen : Bool) (seedb trackb : List ℕ) (E : List Edit) (output waiting pended moments : List ℕ) (q : Walk) where
+module _ (upper : List ℕ) (n : ℕ) (keen : Bool) (m : Option ℕ) (seedb trackb : List ℕ) (E : List Edit) (output waiting pended moments : List ℕ) (q : Walk) where
   module _ (waiting′ pended′ : List ℕ) {w p : ℕ} (r : Walk) (e : r ≡ recounted q w p) where
     pub joined-only : beyond upper n ≡ false → keen ≡ false
         → (Set waiting′ w × Set pended′ p) × Made upper n (seedb ++ trackb) (take (q .waiting) waiting) (take w waiting′) (take (q .pended) pended) (take p pended′)
-        → Acting upper n keen seedb trackb E output waiting pended moments q E output waiting′ pended′ moments r
+        → Acting upper n keen m seedb trackb E output waiting pended moments q E output waiting′ pended′ moments r
     unfolding madeOf
     joined-only b k u =
         rw e (record {
@@ -129,7 +126,7 @@ module _ (upper : List ℕ) (n : ℕ) (keen : Bool) (seedb trackb : List ℕ) (E
 
   module _ (b : beyond upper n ≡ true) where
     pub pended-keen : (pended′ : List ℕ) {p : ℕ} (r : Walk) → keen ≡ true → Set waiting (q .waiting) → Put n pended (q .pended) pended′ p → r ≡ recounted q (q .waiting) p
-        → Acting upper n keen seedb trackb E output waiting pended moments q E output waiting pended′ moments r
+        → Acting upper n keen m seedb trackb E output waiting pended moments q E output waiting pended′ moments r
     unfolding madeOf
     pended-keen pended′ {p} r k s u e =
         rw e (record {
@@ -152,7 +149,7 @@ module _ (upper : List ℕ) (n : ℕ) (keen : Bool) (seedb trackb : List ℕ) (E
           same-tracked = refl;
         })
 
-    pub pended-dull : keen ≡ false → Set waiting (q .waiting) → Set pended (q .pended) → Acting upper n keen seedb trackb E output waiting pended moments q E output waiting pended moments q
+    pub pended-dull : keen ≡ false → Set waiting (q .waiting) → Set pended (q .pended) → Acting upper n keen m seedb trackb E output waiting pended moments q E output waiting pended moments q
     unfolding madeOf
     pended-dull k s t =
         record {
@@ -176,14 +173,14 @@ module _ (upper : List ℕ) (n : ℕ) (keen : Bool) (seedb trackb : List ℕ) (E
         }
 
 -- an arm that is chosen by `keen`
-pub keenly : {keen : Bool} {upper : List ℕ} {n : ℕ} {seedb trackb : List ℕ} {E : List Edit} {output waiting pended moments : List ℕ} {q : Walk} {E′ : List Edit} {output′ waiting′ pended′ moments′ : List ℕ} {r : Walk} → keen ≡ true
-    → Acting upper n true seedb trackb E output waiting pended moments q E′ output′ waiting′ pended′ moments′ r → Acting upper n keen seedb trackb E output waiting pended moments q E′ output′ waiting′ pended′ moments′ r
+pub keenly : {keen : Bool} {upper : List ℕ} {n : ℕ} {m : Option ℕ} {seedb trackb : List ℕ} {E : List Edit} {output waiting pended moments : List ℕ} {q : Walk} {E′ : List Edit} {output′ waiting′ pended′ moments′ : List ℕ} {r : Walk} → keen ≡ true
+    → Acting upper n true m seedb trackb E output waiting pended moments q E′ output′ waiting′ pended′ moments′ r → Acting upper n keen m seedb trackb E output waiting pended moments q E′ output′ waiting′ pended′ moments′ r
 keenly e a = rw e a
 
 -- ---- the meet of all that remains
-pub finished : (seeds pending times output waiting : List ℕ) {tracked tracked′ : List ℕ} (w : Walk) {m : Meet} {t : ℕ}
-    → optional m ≡ meets (drop (w .seeds .at) seeds ++ (drop (w .pending) pending ++ (drop (w .input .at) times ++ (drop (w .output .at) output ++ take (w .waiting - 0) waiting)))) none
+pub finished : {ahead : Option ℕ} (waiting : List ℕ) {tracked tracked′ : List ℕ} (w : Walk) {m : Meet} {t : ℕ}
+    → optional m ≡ meets (take (w .waiting - 0) waiting) ahead
     → (t ≤ w .tracked) × (take t tracked′ ≡ puts (map (joined (optional m)) (take (w .tracked) tracked)) [])
-    → Finishing (drop (w .seeds .at) seeds ++ (drop (w .pending) pending ++ (drop (w .input .at) times ++ (drop (w .output .at) output ++ take (w .waiting) waiting)))) tracked tracked′ w
+    → Finishing ahead (take (w .waiting) waiting) tracked tracked′ w
     (record { seeds = w .seeds; pending = w .pending; input = w .input; output = w .output; waiting = w .waiting; tracked = t; moments = w .moments; pended = w .pended; m = m })
-finished seeds pending times output waiting w e f = record { m-is = rw sub-zero at e; tracked-is = f .1; tracked-fewer = f .0; same-rest = refl }
+finished waiting w e f = record { m-is = rw sub-zero at e; tracked-is = f .1; tracked-fewer = f .0; same-rest = refl }

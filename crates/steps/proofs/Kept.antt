@@ -2,11 +2,12 @@
 --
 -- few: no limit was passed, so there is room for a moment. tracked-within: there is room for what is tracked
 -- popped-light: the diffs of the input are as large as they were. ready: what is asked where n is acted upon
--- moments-within: there is room for the moments. known-acted, known-kept, standing-kept, roomy-kept: what was known of the columns still is
+-- moments-within: there is room for the moments. known-popped, known-acted, known-kept, standing-kept, roomy-kept: what was known of the columns still is
 use Prim.Native.Nat.{ℕ, suc, _+_, _-_, _≤_}
 use native.Mathlib.Omega.{arith}
 use mathlib.Core.Bool.{Bool, true, cond, _&&_}
 use mathlib.Core.List.{List, _++_}
+use mathlib.Core.Option.{Option}
 use mathlib.Core.Path.{_≡_, refl, sym, _∙_, ap}
 use lib.Dec.{ltb, eqb}
 use lib.IntN.{ℤ}
@@ -16,7 +17,6 @@ use borrow.Author.Tests.{ltb-false}
 use Rattle.grid.specs.Lists.{front, past}
 use Rattle.grid.specs.Frontiers.{shortOf}
 use Rattle.grid.proofs.Tests.{by-test, or-false-l}
-use Rattle.times.specs.Meets.{optional}
 use Rattle.rules.specs.Histories.{ValueHistory, timeOf, stepped, moved}
 use Rattle.rules.specs.Discover.{mostMoments, interesting, isMoment}
 use Rattle.rules.proofs.Fuel.{Bounded, waiting-moment}
@@ -25,9 +25,11 @@ use Rattle.histories.proofs.Suffixes.{suffixes-later}
 use Rattle.consolidation.specs.Entries.{mostMass}
 use Rattle.edits.specs.Edits.{edits, Alike}
 use Rattle.edits.proofs.Edits.{length-edits, edits-ahead}
-use Rattle.steps.specs.Parts.{isMade, Popping, Acting, Finishing, Ready}
-use Rattle.steps.specs.Walks.{stateOf, weight, Standing, Known, Roomy, Worked, Calm}
-use Rattle.steps.specs.declared.Walk.{Walk}
+use Rattle.pops.specs.Popping.{Popping}
+use Rattle.steps.specs.Parts.{isMade, Acting, Finishing, Ready}
+use Rattle.pops.specs.Standing.{weight, Standing}
+use Rattle.steps.specs.Walks.{stateOf, Known, Roomy, Worked, Calm}
+use Rattle.pops.specs.declared.Walk.{Walk}
 use Rattle.steps.proofs.Weights.{weight-append, weight-past, weight-advance}
 
 pub few : {upper : List ℕ} (seeds pending times values : List ℕ) (diffs : List ℤ) (output waiting tracked moments pended : List ℕ) (p : Walk) → Calm upper (stateOf seeds pending times values diffs output waiting tracked moments pended p) → p .moments ≤ mostMoments
@@ -90,9 +92,19 @@ module _ {n : ℕ} {seeds pending times values : List ℕ} {diffs : List ℤ} {o
         worked = record { for-seeds = omega arith; for-times = omega arith; for-output = omega arith; for-tracked = omega arith; for-places = omega arith; for-values = omega arith; for-diffs = omega arith };
       }
 
+  pub known-popped : {seedm pendm inputm outputm : List ℕ} → Known seeds seedm pending pendm times inputm output outputm p
+      → length seeds₁ ≡ length seeds → Alike times₁ values₁ diffs₁ → length times₁ ≡ length times → length output₁ ≡ length output
+      → Known seeds₁ seedm pending pendm times₁ inputm output₁ outputm q
+  known-popped K ls al lt lo = record {
+    of-seeds = suffixes-later seeds₁ (q .seeds .at) (K .of-seeds) (A .seeds-later) ls (A .seeds-ahead);
+    of-pending = suffixes-later pending (q .pending) (K .of-pending) (A .pending-later) refl refl;
+    of-input = suffixes-later times₁ (q .input .at) (K .of-input) (A .input-later) lt (edits-ahead times values diffs (S .input-alike) (q .input .at) al (A .input-ahead));
+    of-output = suffixes-later output₁ (q .output .at) (K .of-output) (A .output-later) lo (A .output-ahead);
+  }
+
   -- ---- after n was acted upon
-  module _ {upper : List ℕ} {keen : Bool} {seedb trackb pended moments : List ℕ} (times₂ values₂ : List ℕ) (diffs₂ : List ℤ) {output₂ waiting₂ pended₂ moments₂ : List ℕ} {a : Walk}
-      (C : Acting upper n keen seedb trackb (edits times₁ values₁ diffs₁) output₁ waiting₁ pended moments q (edits times₂ values₂ diffs₂) output₂ waiting₂ pended₂ moments₂ a) where
+  module _ {upper : List ℕ} {keen : Bool} {m : Option ℕ} {seedb trackb pended moments : List ℕ} (times₂ values₂ : List ℕ) (diffs₂ : List ℤ) {output₂ waiting₂ pended₂ moments₂ : List ℕ} {a : Walk}
+      (C : Acting upper n keen m seedb trackb (edits times₁ values₁ diffs₁) output₁ waiting₁ pended moments q (edits times₂ values₂ diffs₂) output₂ waiting₂ pended₂ moments₂ a) where
     pub known-acted : {seedm pendm inputm outputm : List ℕ} → Known seeds seedm pending pendm times inputm output outputm p
         → length seeds₁ ≡ length seeds → Alike times₂ values₂ diffs₂ → length times₂ ≡ length times → length output₂ ≡ length output
         → Known seeds₁ seedm pending pendm times₂ inputm output₂ outputm a
@@ -108,11 +120,11 @@ module _ {n : ℕ} {seeds pending times values : List ℕ} {diffs : List ℤ} {o
 
     pub moments-within : (moments₀ : List ℕ) → p .moments ≤ mostMoments → suc mostMoments ≤ length moments₀ → length moments₂ ≡ length moments₀ → a .moments ≤ length moments₂
     moments-within moments₀ f g l =
-        let m : q .moments ≡ p .moments = A .same-moments in
+        let e : q .moments ≡ p .moments = A .same-moments in
         by-test (isMade upper n keen) (λ y. let z : a .moments ≡ q .moments + 1 = C .moments-counted ∙ rw y in omega arith) (λ y. let z : a .moments ≡ q .moments = C .moments-counted ∙ rw y in omega arith)
 
     -- ---- after the meet was taken
-    module _ {left tracked₃ : List ℕ} {r : Walk} (F : Finishing left tracked₁ tracked₃ a r) where
+    module _ {ahead : Option ℕ} {waits tracked₃ : List ℕ} {r : Walk} (F : Finishing ahead waits tracked₁ tracked₃ a r) where
       pub known-kept : {seeds₂ seedm pendm times₃ inputm output₃ outputm : List ℕ} → Known seeds₂ seedm pending pendm times₃ inputm output₃ outputm a → Known seeds₂ seedm pending pendm times₃ inputm output₃ outputm r
       known-kept K = rw (F .same-rest) (record { of-seeds = K .of-seeds; of-pending = K .of-pending; of-input = K .of-input; of-output = K .of-output })
 
@@ -122,7 +134,7 @@ module _ {n : ℕ} {seeds pending times values : List ℕ} {diffs : List ℤ} {o
           let li = popped-light in
           rw (C .input-is, d)
           (by-test (isMade upper n keen)
-          (λ e. rw e (let k = weight-advance (optional (q .m)) (take (q .input .count) (edits times₁ values₁ diffs₁)) in omega arith))
+          (λ e. rw e (let k = weight-advance m (take (q .input .count) (edits times₁ values₁ diffs₁)) in omega arith))
           (λ e. rw e (omega arith)))
 
       pub standing-kept : length seeds₁ ≡ length seeds → Alike times₂ values₂ diffs₂ → length times₂ ≡ length times → length output₂ ≡ length output → Standing seeds₁ pending times₂ values₂ diffs₂ output₂ r

@@ -1,6 +1,4 @@
-pub mod Tracks
 pub mod Answers
-pub mod Five
 pub mod Arms
 pub mod States
 pub mod Weights

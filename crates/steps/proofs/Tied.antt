@@ -4,7 +4,7 @@
 use Prim.Native.Nat.{ℕ, _≤_}
 use mathlib.Core.Bool.{Bool, true, false, cond, _&&_, _||_}
 use mathlib.Core.List.{List, [], _∷_, _++_, map}
-use mathlib.Core.Option.{none}
+use mathlib.Core.Option.{Option, none}
 use mathlib.Core.Path.{_≡_, refl, sym, _∙_, ap}
 use lib.Dec.{ltb, eqb}
 use lib.IntN.{ℤ}
@@ -13,16 +13,18 @@ use lib.Seq.{length-take-le}
 use Rattle.grid.specs.Lists.{any}
 use Rattle.grid.specs.Times.{below, joined, meets, put, puts}
 use Rattle.grid.specs.Frontiers.{beyond}
+use Rattle.grid.proofs.Operations.{map-drop}
 use Rattle.times.specs.Meets.{optional}
 use Rattle.rules.specs.Histories.{Edit, History, TimeHistory, ValueHistory, timeOf, stepped, advanceTimes, advanceEdits}
 use Rattle.rules.specs.Discover.{mostMoments, State, remaining, seedsPast, trackedPast, known, interesting, isMoment, inputPast, outputPast, madeOfBuffers, madeShort, madeBeyond, made, momentsPast, passes}
 use Rattle.histories.specs.Places.{historyOf}
 use Rattle.edits.specs.Edits.{edits, Alike}
-use Rattle.edits.proofs.Edits.{times-edits, map-drop}
+use Rattle.edits.proofs.Edits.{times-edits}
 use Rattle.joins.specs.Sets.{Grown}
-use Rattle.steps.specs.Parts.{seedsAfter, madeOf, Popping, Acting, Finishing}
+use Rattle.pops.specs.Popping.{seedsAfter, Popping}
+use Rattle.steps.specs.Parts.{madeOf, Acting, Finishing}
 use Rattle.steps.specs.Walks.{stateOf, Calm, Steps}
-use Rattle.steps.specs.declared.Walk.{Walk}
+use Rattle.pops.specs.declared.Walk.{Walk}
 use Rattle.steps.proofs.States.{Fields, fields-step}
 
 abbrev held : {A : Type 0} → List A → List A → History A
@@ -35,10 +37,10 @@ cond-history false ahead x y = refl
 grown-as : {ts us us′ l : List ℕ} → us ≡ us′ → Grown ts us l → Grown ts us′ l
 grown-as e g = rw (← e) g
 
-acting-as : {upper : List ℕ} {n : ℕ} {keen keen′ : Bool} {seedb seedb′ trackb trackb′ : List ℕ} {E : List Edit} {output waiting pended moments : List ℕ} {q : Walk} {E′ : List Edit} {output′ waiting′ pended′ moments′ : List ℕ} {a : Walk}
+acting-as : {upper : List ℕ} {n : ℕ} {keen keen′ : Bool} {m : Option ℕ} {seedb seedb′ trackb trackb′ : List ℕ} {E : List Edit} {output waiting pended moments : List ℕ} {q : Walk} {E′ : List Edit} {output′ waiting′ pended′ moments′ : List ℕ} {a : Walk}
     → keen ≡ keen′ → seedb ≡ seedb′ → trackb ≡ trackb′
-    → Acting upper n keen seedb trackb E output waiting pended moments q E′ output′ waiting′ pended′ moments′ a
-    → Acting upper n keen′ seedb′ trackb′ E output waiting pended moments q E′ output′ waiting′ pended′ moments′ a
+    → Acting upper n keen m seedb trackb E output waiting pended moments q E′ output′ waiting′ pended′ moments′ a
+    → Acting upper n keen′ m seedb′ trackb′ E output waiting pended moments q E′ output′ waiting′ pended′ moments′ a
 acting-as e f g h = rw (← e, ← f, ← g) h
 
 module _ {n : ℕ} {seeds pending : List ℕ} (times values : List ℕ) (diffs : List ℤ) {output waiting tracked : List ℕ} (moments pended : List ℕ) {p : Walk} {seeds₁ : List ℕ} {E₁ : List Edit} {output₁ waiting₁ tracked₁ : List ℕ} {hit : Bool} {q : Walk}
@@ -62,14 +64,15 @@ module _ {n : ℕ} {seeds pending : List ℕ} (times values : List ℕ) (diffs :
   unfolding stateOf historyOf interesting known beyond
   keen-is k = k ∙ (λ j. A .hit-is j || any (λ t. below t n) (seedb-is j ++ trackb-is j))
 
-  module _ {upper : List ℕ} {keen : Bool} (times₂ values₂ : List ℕ) (diffs₂ : List ℤ) {output₂ waiting₂ pended₂ moments₂ : List ℕ} {a : Walk} {tracked₃ : List ℕ} {r : Walk}
+  module _ {upper : List ℕ} {keen : Bool} (times₂ values₂ : List ℕ) (diffs₂ : List ℤ) {output₂ waiting₂ pended₂ moments₂ : List ℕ} {a : Walk} {ahead : Option ℕ} {waits tracked₃ : List ℕ} {r : Walk}
       (k : keen ≡ (hit || beyond (take (q .seeds .count) seeds₁ ++ take (q .tracked) tracked₁) n))
-      (C₀ : Acting upper n keen (take (q .seeds .count) seeds₁) (take (q .tracked) tracked₁) E₁ output₁ waiting₁ pended moments q (edits times₂ values₂ diffs₂) output₂ waiting₂ pended₂ moments₂ a)
-      (F : Finishing (drop (a .seeds .at) seeds₁ ++ (drop (a .pending) pending ++ (drop (a .input .at) times₂ ++ (drop (a .output .at) output₂ ++ take (a .waiting) waiting₂)))) tracked₁ tracked₃ a r) where
+      (C₀ : Acting upper n keen (optional (q .m)) (take (q .seeds .count) seeds₁) (take (q .tracked) tracked₁) E₁ output₁ waiting₁ pended moments q (edits times₂ values₂ diffs₂) output₂ waiting₂ pended₂ moments₂ a)
+      (F : Finishing ahead waits tracked₁ tracked₃ a r)
+      (L : optional (r .m) ≡ meets (drop (a .seeds .at) seeds₁ ++ (drop (a .pending) pending ++ (drop (a .input .at) times₂ ++ (drop (a .output .at) output₂ ++ take (a .waiting) waiting₂)))) none) where
     abbrev T : State
     T = stateOf seeds₁ pending times₂ values₂ diffs₂ output₂ waiting₂ tracked₃ moments₂ pended₂ r
 
-    C : Acting upper n (interesting n S) (seedsPast n S .buffer) (trackedPast n S) E₁ output₁ waiting₁ pended moments q (edits times₂ values₂ diffs₂) output₂ waiting₂ pended₂ moments₂ a
+    C : Acting upper n (interesting n S) (optional (q .m)) (seedsPast n S .buffer) (trackedPast n S) E₁ output₁ waiting₁ pended moments q (edits times₂ values₂ diffs₂) output₂ waiting₂ pended₂ moments₂ a
     C = acting-as (keen-is k) seedb-is trackb-is C₀
 
     same : {B : Type 0} (f : Walk → B) → (f r ≡ f (record { seeds = a .seeds; pending = a .pending; input = a .input; output = a .output; waiting = a .waiting; tracked = r .tracked; moments = a .moments; pended = a .pended; m = r .m }))
@@ -100,7 +103,7 @@ module _ {n : ℕ} {seeds pending : List ℕ} (times values : List ℕ) (diffs :
       unfolding stateOf historyOf remaining
       left-is =
           sym (λ j. drop (same (λ w. w .seeds .at) j) seeds₁ ++ (drop (same (λ w. w .pending) j) pending
-          ++ ((sym (map-drop timeOf (r .input .at) (edits times₂ values₂ diffs₂)) ∙ ap (drop (r .input .at)) (times-edits times₂ values₂ diffs₂ al) ∙ ap (λ i. drop i times₂) (same (λ w. w .input .at))) j
+          ++ ((map-drop timeOf (r .input .at) (edits times₂ values₂ diffs₂) ∙ ap (drop (r .input .at)) (times-edits times₂ values₂ diffs₂ al) ∙ ap (λ i. drop i times₂) (same (λ w. w .input .at))) j
           ++ (drop (same (λ w. w .output .at) j) output₂ ++ take (same (λ w. w .waiting) j) waiting₂))))
 
       pub code-step : Calm upper S → a .waiting ≤ length waiting₂ → a .pended ≤ length pended₂ → a .moments ≤ length moments₂ → Steps upper n S T
@@ -126,7 +129,7 @@ module _ {n : ℕ} {seeds pending : List ℕ} (times values : List ℕ) (diffs :
             waiting = rw (same (λ w. w .waiting), ← made-is, ← A .waiting-is) (C .waiting-is);
             pended = rw (same (λ w. w .pended), ← made-is) (grown-as (ap (λ i. cond (beyond upper n && interesting n S) (put n (take i pended)) (take i pended)) (A .same-pended)) (C .pended-is));
             moments = ap (λ i. take i moments₂) (same (λ w. w .moments)) ∙ C .moments-are ∙ ap (λ i. cond (isMoment upper n S) (take i moments ++ (n ∷ [])) (take i moments)) (A .same-moments);
-            m = F .m-is ∙ ap (λ l. meets l none) left-is;
+            m = L ∙ ap (λ l. meets l none) left-is;
             tracked = F .tracked-is ∙ ap (λ l. puts (map (joined (optional (r .m))) l) []) (ap (λ i. take i tracked₁) (C .same-tracked) ∙ trackb-is);
             limits = λ j. ltb mostMoments (moments-long j) || (ltb mostMoments (waiting-long j) || ltb mostMoments (pended-long j));
           }

@@ -15,7 +15,7 @@ use Rattle.rules.specs.Histories.{Edit, earlier, byValue, joinedEdit, loadEdits
 use Rattle.consolidation.specs.Entries.{mass}
 use Rattle.grid.proofs.Sizes.{sizing-natAbs, mass-consolidate}
 use Rattle.consolidation.proofs.Laws.{mass-entries}
-use Rattle.steps.specs.Walks.{weight}
+use Rattle.pops.specs.Standing.{weight}
 
 pub weight-append : (es fs : List Edit) → weight (es ++ fs) ≡ weight es + weight fs
 unfolding weight mass

@@ -1,8 +1,6 @@
--- Where a walk stands: the state of the rules that the lent columns and the places hold, and what both keep.
+-- The state of the rules that the lent columns and the places of a walk hold, and what both keep.
 --
 -- stateOf: the state. overOf: whether a limit was passed
--- weight: the sum of the sizes of the diffs, bounded by 2^44
--- Standing: each place lies in its column, and the diffs of the input still there are bounded, which advancing never undoes
 -- Known: the suffix meets tell the meets of what is ahead
 -- Roomy: waiting joins and pended times are sets with room for one more than the limit; so have the moments. The tracked times have room for the pending
 -- times ahead and for each moment that may still come
@@ -11,7 +9,7 @@
 -- Steps upper n s s′: s′ is the step of s at n. Once a limit is passed, only that is told
 use Prim.Native.Nat.{ℕ, suc, _+_, _-_, _≤_}
 use mathlib.Core.Bool.{Bool, false, _||_}
-use mathlib.Core.List.{List, map}
+use mathlib.Core.List.{List}
 use mathlib.Core.Path.{_≡_}
 use lib.Dec.{ltb}
 use lib.IntN.{ℤ}
@@ -19,14 +17,12 @@ use lib.ListN.{length, take, drop}
 use Rattle.grid.specs.Frontiers.{beyond}
 use Rattle.grid.proofs.Lists.{All}
 use Rattle.times.specs.Meets.{optional}
-use Rattle.rules.specs.Histories.{Edit}
 use Rattle.rules.specs.Discover.{mostMoments, State, step}
-use Rattle.histories.specs.Places.{historyOf, Placed}
+use Rattle.histories.specs.Places.{historyOf}
 use Rattle.histories.specs.Suffixes.{Suffixes}
-use Rattle.consolidation.specs.Entries.{mass, mostMass}
-use Rattle.edits.specs.Edits.{edits, Alike}
+use Rattle.edits.specs.Edits.{edits}
 use Rattle.joins.specs.Sets.{Set}
-use Rattle.steps.specs.declared.Walk.{Walk}
+use Rattle.pops.specs.declared.Walk.{Walk}
 
 abbrev pub overOf : Walk → Bool
 overOf w = ltb mostMoments (w .moments) || (ltb mostMoments (w .waiting) || ltb mostMoments (w .pended))
@@ -45,17 +41,6 @@ stateOf seeds pending times values diffs output waiting tracked moments pended w
       pended = take (w .pended) pended;
       over = overOf w;
     }
-
-unfoldable pub weight : List Edit → ℕ
-weight es = mass (map (λ (e : Edit). e .1) es)
-
-pub record Standing (seeds pending times values : List ℕ) (diffs : List ℤ) (output : List ℕ) (w : Walk) : Type 0 where
-  pub seeds-placed : Placed (length seeds) (w .seeds)
-  pub pending-within : w .pending ≤ length pending
-  pub input-placed : Placed (length times) (w .input)
-  pub input-alike : Alike times values diffs
-  pub input-light : weight (take (w .input .count) (edits times values diffs)) + weight (drop (w .input .at) (edits times values diffs)) ≤ mostMass
-  pub output-placed : Placed (length output) (w .output)
 
 pub record Known (seeds seedm pending pendm times inputm output outputm : List ℕ) (w : Walk) : Type 0 where
   pub of-seeds : Suffixes seeds seedm (w .seeds .at)

@@ -1,25 +1,26 @@
 // "n short of upper: if interesting, advance the input and output buffers by m, join n with each buffered time not at or below n, and record n as a
 // moment. Interesting or not, join n with each seed-buffer and tracked time not at or below n. n beyond upper: pended if interesting."
-use crate::Walk;
+use advances::advance_edits;
+use advances::advance_times;
 use histories::Place;
-use histories::advance_buffer_by;
 use joins::Counts;
 use joins::join_both;
 use joins::put_time;
-use joins::remaining_meet;
 use joins::retrack;
+use pops::Walk;
+use times::Meet;
 use times::PackedTime;
 use times::is_beyond;
+use times::meets;
 ghost use mathlib.Core.Bool.{true, false, _||_};
 ghost use mathlib.Core.List.{_++_};
 ghost use mathlib.Core.Path.{_≡_};
 ghost use Prim.Native.Nat.{_≤_};
-ghost use lib.ListN.{length, take, drop};
+ghost use lib.ListN.{length, take};
 ghost use Rattle.grid.specs.Frontiers.{beyond};
 ghost use Rattle.times.specs.Meets.{optional};
 ghost use Rattle.edits.specs.Edits.{edits};
 ghost use Rattle.steps.specs.Parts.{Ready, Acting, Finishing, recounted};
-ghost use Rattle.steps.specs.Walks.{Known};
 
 // n is interesting if one was popped that makes it so, or if a seed-buffer or tracked time is at or below it.
 pub fn is_interesting(
@@ -46,6 +47,7 @@ pub fn is_interesting(
 fn settle(
     upper: &[u64],
     n: PackedTime,
+    m: Meet,
     seeds: &[u64],
     tracked: &[u64],
     times: &mut [u64],
@@ -63,16 +65,15 @@ fn settle(
 ) -> Walk
     requires { ⌜ Ready (now seeds) (now tracked) (now times) (now values) (now diffs) (now output) (now waiting) (now pended) (now moments) (now work) (now places) (now wvalues) (now wdiffs) q ⌝ }
     requires { ⌜ beyond (now upper) (n .0) ≡ false ⌝ }
-    ensures { λ r. ⌜ Acting (now (upper .entry)) (n .0) true (take (q .seeds .count) (now (seeds .entry))) (take (q .tracked) (now (tracked .entry))) (edits (now (times .entry)) (now (values .entry)) (now (diffs .entry))) (now (output .entry)) (now (waiting .entry)) (now (pended .entry)) (now (moments .entry)) q (edits (now (times .exit)) (now (values .exit)) (now (diffs .exit))) (now (output .exit)) (now (waiting .exit)) (now (pended .exit)) (now (moments .exit)) r ⌝ }
+    ensures { λ r. ⌜ Acting (now (upper .entry)) (n .0) true (optional m) (take (q .seeds .count) (now (seeds .entry))) (take (q .tracked) (now (tracked .entry))) (edits (now (times .entry)) (now (values .entry)) (now (diffs .entry))) (now (output .entry)) (now (waiting .entry)) (now (pended .entry)) (now (moments .entry)) q (edits (now (times .exit)) (now (values .exit)) (now (diffs .exit))) (now (output .exit)) (now (waiting .exit)) (now (pended .exit)) (now (moments .exit)) r ⌝ }
 {
-    let m = q.m;
     let s = q.seeds;
     let i = q.input;
     let o = q.output;
     let k = q.moments;
     moments[k] = n.0;
     let after = k + 1;
-    let icount = edits::advance_buffer_by(
+    let icount = advance_edits(
         times,
         values,
         diffs,
@@ -83,7 +84,7 @@ fn settle(
         work,
         wdiffs,
     );
-    let ocount = advance_buffer_by(output, o.count, m, work);
+    let ocount = advance_times(output, o.count, m, work);
     let counts = Counts {
         waiting: q.waiting,
         pended: q.pended,
@@ -144,6 +145,7 @@ pub fn act(
     upper: &[u64],
     n: PackedTime,
     keen: bool,
+    m: Meet,
     seeds: &[u64],
     tracked: &[u64],
     times: &mut [u64],
@@ -160,7 +162,7 @@ pub fn act(
     q: Walk,
 ) -> Walk
     requires { ⌜ Ready (now seeds) (now tracked) (now times) (now values) (now diffs) (now output) (now waiting) (now pended) (now moments) (now work) (now places) (now wvalues) (now wdiffs) q ⌝ }
-    ensures { λ r. ⌜ Acting (now (upper .entry)) (n .0) keen (take (q .seeds .count) (now (seeds .entry))) (take (q .tracked) (now (tracked .entry))) (edits (now (times .entry)) (now (values .entry)) (now (diffs .entry))) (now (output .entry)) (now (waiting .entry)) (now (pended .entry)) (now (moments .entry)) q (edits (now (times .exit)) (now (values .exit)) (now (diffs .exit))) (now (output .exit)) (now (waiting .exit)) (now (pended .exit)) (now (moments .exit)) r ⌝ }
+    ensures { λ r. ⌜ Acting (now (upper .entry)) (n .0) keen (optional m) (take (q .seeds .count) (now (seeds .entry))) (take (q .tracked) (now (tracked .entry))) (edits (now (times .entry)) (now (values .entry)) (now (diffs .entry))) (now (output .entry)) (now (waiting .entry)) (now (pended .entry)) (now (moments .entry)) q (edits (now (times .exit)) (now (values .exit)) (now (diffs .exit))) (now (output .exit)) (now (waiting .exit)) (now (pended .exit)) (now (moments .exit)) r ⌝ }
 {
     if is_beyond(upper, n) {
         if keen {
@@ -173,6 +175,7 @@ pub fn act(
         return settle(
             upper,
             n,
+            m,
             seeds,
             tracked,
             times,
@@ -208,43 +211,16 @@ pub fn act(
     recount(q, c.waiting, c.pended)
 }
 
-// "m becomes the meet of all that remains; tracked times are joined with it, equals removed."
-pub fn finish(
-    seeds: &[u64],
-    seedm: &[u64],
-    pending: &[u64],
-    pendm: &[u64],
-    times: &[u64],
-    inputm: &[u64],
-    output: &[u64],
-    outputm: &[u64],
-    waiting: &[u64],
-    tracked: &mut [u64],
-    work: &mut [u64],
-    a: Walk,
-) -> Walk
-    requires { ⌜ Known (now seeds) (now seedm) (now pending) (now pendm) (now times) (now inputm) (now output) (now outputm) a × ((a .waiting ≤ length (now waiting)) × ((a .tracked ≤ length (now tracked)) × (length (now tracked) ≤ length (now work)))) ⌝ }
-    ensures { λ r. ⌜ Finishing (drop (a .seeds .at) (now (seeds .entry)) ++ (drop (a .pending) (now (pending .entry)) ++ (drop (a .input .at) (now (times .entry)) ++ (drop (a .output .at) (now (output .entry)) ++ take (a .waiting) (now (waiting .entry)))))) (now (tracked .entry)) (now (tracked .exit)) a r ⌝ }
+// "m becomes the meet of all that remains; tracked times are joined with it, equals removed." `ahead` is the meet of what is ahead in the histories.
+pub fn finish(ahead: Meet, waiting: &[u64], tracked: &mut [u64], work: &mut [u64], a: Walk) -> Walk
+    requires { ⌜ (a .waiting ≤ length (now waiting)) × ((a .tracked ≤ length (now tracked)) × (length (now tracked) ≤ length (now work))) ⌝ }
+    ensures { λ r. ⌜ Finishing (optional ahead) (take (a .waiting) (now (waiting .entry))) (now (tracked .entry)) (now (tracked .exit)) a r ⌝ }
 {
     let s = a.seeds;
     let i = a.input;
     let o = a.output;
     let w = a.waiting;
-    let m = remaining_meet(
-        seeds,
-        seedm,
-        s.at,
-        pending,
-        pendm,
-        a.pending,
-        times,
-        inputm,
-        i.at,
-        output,
-        outputm,
-        o.at,
-        &waiting[0..w],
-    );
+    let m = meets(&waiting[0..w], ahead);
     let t = retrack(m, tracked, a.tracked, work);
     Walk {
         seeds: s,

@@ -1,34 +1,6 @@
 // One step of discover_times, per key.
 mod acts;
-mod pops;
 mod whole;
 
-use histories::Place;
-use times::Meet;
 pub use whole::is_over;
 pub use whole::step;
-
-// The places and counts of a walk in its lent columns, and the meet of all that remained before it.
-pub struct Walk {
-    pub seeds: Place,
-    pub pending: usize,
-    pub input: Place,
-    pub output: Place,
-    pub waiting: usize,
-    pub tracked: usize,
-    pub moments: usize,
-    pub pended: usize,
-    pub m: Meet,
-}
-
-// How many waiting joins and tracked times there are.
-pub struct Taken {
-    pub waiting: usize,
-    pub tracked: usize,
-}
-
-// A walk whose five histories were stepped, and whether a seed, a pending time or a waiting join moved.
-pub struct Popped {
-    pub walk: Walk,
-    pub hit: bool,
-}

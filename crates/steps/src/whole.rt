@@ -1,13 +1,15 @@
 // One step at n.
-use crate::Walk;
 use crate::acts::act;
 use crate::acts::finish;
 use crate::acts::is_interesting;
-use crate::pops::pop_all;
 use joins::MOST_MOMENTS;
+use joins::meet_of_four;
+use pops::Walk;
+use pops::pop_all;
 use times::PackedTime;
 ghost use mathlib.Core.Path.{_≡_};
-ghost use Rattle.steps.specs.Walks.{overOf, stateOf, Standing, Known, Roomy, Worked, Calm, Steps};
+ghost use Rattle.pops.specs.Standing.{Standing};
+ghost use Rattle.steps.specs.Walks.{overOf, stateOf, Known, Roomy, Worked, Calm, Steps};
 
 // Whether a limit was passed.
 pub fn is_over(w: Walk) -> bool
@@ -22,7 +24,7 @@ pub fn is_over(w: Walk) -> bool
     w.pended > MOST_MOMENTS
 }
 
-// Steps all five past n, acts upon n, and takes the meet of all that remains. Up to the last of these, m still covers n.
+// Steps all five past n, acts upon n, and takes the meet of all that remains. n is gone from `ahead`; m still covers it, and buffers are advanced by m.
 pub fn step(
     upper: &[u64],
     n: PackedTime,
@@ -70,12 +72,30 @@ pub fn step(
         p,
     );
     let q = s.walk;
+    let m = q.m;
     let places_of_seeds = q.seeds;
+    let places_of_input = q.input;
+    let places_of_output = q.output;
+    let ahead = meet_of_four(
+        seeds,
+        seedm,
+        places_of_seeds.at,
+        pending,
+        pendm,
+        q.pending,
+        times,
+        inputm,
+        places_of_input.at,
+        output,
+        outputm,
+        places_of_output.at,
+    );
     let keen = is_interesting(s.hit, seeds, places_of_seeds.count, tracked, q.tracked, n);
     let a = act(
         upper,
         n,
         keen,
+        m,
         seeds,
         tracked,
         times,
@@ -91,18 +111,5 @@ pub fn step(
         wdiffs,
         q,
     );
-    finish(
-        seeds,
-        seedm,
-        pending,
-        pendm,
-        times,
-        inputm,
-        output,
-        outputm,
-        waiting,
-        tracked,
-        work,
-        a,
-    )
+    finish(ahead, waiting, tracked, work, a)
 }

@@ -1,5 +1,4 @@
 use Rattle.joins.proofs.Heads.{lesser-less, lesser-more, lesser-none}
-use borrow.Author.Tests.{not-true}
 use mathlib.Core.Path.{sym, _∙_}
 use borrow.Author.Needs.{needs}
 use Rattle.joins.proofs.remaining.lesser.Statement.{statement}

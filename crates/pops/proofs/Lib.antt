@@ -1,0 +1,2 @@
+pub mod Tracks
+pub mod Five
