@@ -4,7 +4,7 @@
 use Prim.Native.Nat.{ℕ, _+_}
 use native.Mathlib.Omega.{arith}
 use mathlib.Core.Bool.{Bool, true, false, _||_}
-use mathlib.Core.List.{List, [], map, append-nil}
+use mathlib.Core.List.{List, map, append-nil}
 use mathlib.Core.Path.{_≡_, sym, _∙_, ap}
 use lib.Dec.{ltb}
 use lib.ListN.{length}
@@ -21,7 +21,7 @@ use Rattle.settled.proofs.Answer.{answer-many, answer-large, answer-worked}
 use Rattle.results.specs.Told.{placed, published}
 use Rattle.answers.specs.Tells.{concluded}
 use Rattle.answers.specs.declared.Course.{Course}
-use Rattle.retire.specs.Looped.{passed, Looped}
+use Rattle.windows.specs.Looped.{passed, Looped}
 
 module _ {q : Request} {c : Course} {rs : List Row} {ps : List (ℕ × ℕ)} (W : Works q) (L : Looped q c rs ps) where
   abbrev all : List Row

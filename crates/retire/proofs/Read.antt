@@ -1,7 +1,8 @@
 -- What a caller reads in memory after a call is the answer of the rules.
 --
--- fixes-columns, pairs-columns: a list is read from its columns. tiles-read: tiles are read from their numbers
+-- fixes-columns: a list is read from its columns. tiles-read: tiles are read from their numbers
 -- numbers-read: the results are read from the two slices that hold them. answer-read: whatever the status
+-- retires-one: what a call says and leaves is fixed by what was lent
 use Prim.Native.Nat.{ℕ, zero, suc, _*_, _-_, _≤_}
 use mathlib.Core.Bool.{Bool, true, false, _&&_}
 use mathlib.Core.List.{List, [], _∷_, _++_, map, append-assoc}
@@ -17,6 +18,7 @@ use Rattle.grid.specs.Frontiers.{mostTimes}
 use Rattle.grid.specs.Records.{mostRecords, pairs}
 use Rattle.grid.proofs.Tests.{by-test, and-l}
 use Rattle.grid.proofs.Lists.{All, nil, cons}
+use Rattle.grid.proofs.Operations.{pairs-columns}
 use Rattle.rules.specs.Tiles.{Tile}
 use Rattle.rules.specs.Call.{Fix, Answer, refused, call}
 use Rattle.rules.specs.Memory.{Memory, Sizes, Lent, mostBound, tileSize, lentWell, requestOf, callLent, tileNumbers, numbers, diffs, leaves, after}
@@ -30,10 +32,6 @@ use Rattle.answers.specs.declared.Outcome.{Outcome}
 fixes-columns : (fs : List Fix) → fixes (map (λ (f : Fix). f .tile) fs) (map (λ (f : Fix). f .row .key) fs) (map (λ (f : Fix). f .row .value) fs) (map (λ (f : Fix). f .row .time) fs) (map (λ (f : Fix). f .row .diff) fs) ≡ fs
 fixes-columns [] = refl
 fixes-columns (f ∷ fs) = ap (λ gs. f ∷ gs) (fixes-columns fs)
-
-pairs-columns : (ps : List (ℕ × ℕ)) → pairs (map (λ p. p .0) ps) (map (λ p. p .1) ps) ≡ ps
-pairs-columns [] = refl
-pairs-columns (p ∷ ps) = ap (λ rs. p ∷ rs) (pairs-columns ps)
 
 module _ {A : Type 0} (z : A) (n : ℕ) (xs rest : List A) where
   front-read : take (length xs) (padded z n xs ++ rest) ≡ xs
@@ -197,3 +195,7 @@ module _ (z : Sizes) (l : Lent) (r : Outcome) (m : Memory) (R : Retires z l r m)
       ∙ by-test (untouched (callLent z l))
       (λ e. let s = nothing-said e in ap (λ a. answerIn (counts a) (after (callLent z l) (l .memory))) s ∙ none-read (callLent z l .status) (after (callLent z l) (l .memory)) ∙ sym s)
       (λ e. results-read (callLent z l) (l .memory) (lent-fits z l) e)
+
+-- a call says and leaves one thing only
+pub retires-one : {z : Sizes} {l : Lent} {r r′ : Outcome} {m m′ : Memory} → Retires z l r m → Retires z l r′ m′ → (r ≡ r′) × (m ≡ m′)
+retires-one {z} {l} {r} {r′} {m} {m′} R R′ = (said z l r m R ∙ sym (said z l r′ m′ R′), R .memory-is ∙ sym (R′ .memory-is))

@@ -1,3 +1,4 @@
 pub mod Answers
 pub mod Exchanges
-pub mod Looped
+pub mod Lending
+pub mod Parts

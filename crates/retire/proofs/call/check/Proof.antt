@@ -1,0 +1,27 @@
+use Rattle.checks.specs.Checks.{sizesOf}
+use Rattle.retire.proofs.Lending.{checked}
+use borrow.Author.Needs.{needs}
+use Rattle.retire.proofs.call.check.Statement.{statement}
+use Rattle.retire.proofs.call.check.Tie as tie
+
+slice-aggregate-status-before-work : tie.Need-slice-aggregate-status-before-work
+slice-aggregate-status-before-work c = search needs
+
+slice-aggregate-status-before-work-2 : tie.Need-slice-aggregate-status-before-work-2
+slice-aggregate-status-before-work-2 c = search needs
+
+status-before-work-requires : tie.Need-status-before-work-requires
+status-before-work-requires c κs = search needs
+
+returns : tie.Need-returns
+unfolding sizesOf
+returns c = checked (c .status-before-work .ensures)
+
+pub check-spec : {M : Type 1} → statement M
+check-spec =
+    tie.close
+    (tie.spec
+    slice-aggregate-status-before-work
+    slice-aggregate-status-before-work-2
+    status-before-work-requires
+    returns)

@@ -1,0 +1,83 @@
+-- One window's turn: it is searched, its keys' moments and pended times are found, and its rounds are settled.
+--
+-- LentWork: the memory of a call's windows. LentFronts, Full: what its first half asks of it, and the columns of what that finds
+-- Takes: what a window's turn asks. Turned: what it leaves
+use Prim.Native.Nat.{ℕ, _≤_, _<_, _^_}
+use mathlib.Core.Bool.{true, false}
+use mathlib.Core.List.{List, map}
+use mathlib.Core.Path.{_≡_}
+use lib.IntN.{ℤ}
+use lib.ListN.{length}
+use Rattle.grid.specs.Records.{mostRecords}
+use Rattle.rules.specs.Discover.{mostMoments}
+use Rattle.backends.specs.Columns.{Column}
+use Rattle.finding.specs.Searched.{endFrom}
+use Rattle.finding.specs.Tallies.{mostWindow}
+use Rattle.finding.specs.Windowed.{pendedRow, firstsOf, secondsOf, windowOver}
+use Rattle.rounds.specs.Slots.{windowRows, windowCrossings}
+use Rattle.correcting.specs.Settle.{Settles, LentFixes}
+use Rattle.seeking.specs.Sought.{Reached}
+use Rattle.seeking.specs.declared.Progress.{Progress}
+use Rattle.turns.specs.declared.Fronts.{Fronts}
+use Rattle.turns.specs.Runs.{Runs, Good, foundOf, slotAt}
+use Rattle.mending.specs.Corrected.{settledOf, Wide}
+
+pub record LentWork (moments uv ut : List ℕ) (ud : List ℤ) (iv : List ℕ) (id : List ℤ) (ov : List ℕ) (od cd : List ℤ) (wv seeds output waiting tracked pended nk nt fk fv ft : List ℕ) (fd : List ℤ) (res : List ℕ) : Type 0 where
+  pub moments-room : mostWindow < length moments
+  pub wide : Wide uv ut ud iv id ov od cd res
+  pub long-wv : length wv ≡ 8192
+  pub long-seeds : length seeds ≡ mostRecords
+  pub long-output : length output ≡ mostRecords
+  pub long-waiting : length waiting ≡ 1025
+  pub long-tracked : length tracked ≡ 5121
+  pub long-pended : length pended ≡ 1025
+  pub long-nk : length nk ≡ mostRecords
+  pub long-nt : length nt ≡ mostRecords
+  pub lent : LentFixes fk fv ft fd
+
+-- what the search and discovery ask of it
+pub record LentFronts (keys seeds uv ut : List ℕ) (ud : List ℤ) (output res waiting tracked moments pended wv : List ℕ) (id : List ℤ) (nk nt : List ℕ) (p : Progress) : Type 0 where
+  pub keys-few : length keys ≤ 64
+  pub long-seeds : length seeds ≡ mostRecords
+  pub long-uv : length uv ≡ 8192
+  pub long-ut : length ut ≡ 8192
+  pub long-ud : length ud ≡ 8192
+  pub long-output : length output ≡ mostRecords
+  pub room-res : 20480 ≤ length res
+  pub long-waiting : length waiting ≡ 1025
+  pub long-tracked : length tracked ≡ 5121
+  pub moments-room : mostWindow < length moments
+  pub long-pended : length pended ≡ 1025
+  pub long-wv : length wv ≡ 8192
+  pub long-id : length id ≡ 8192
+  pub long-nk : length nk ≡ mostRecords
+  pub long-nt : length nt ≡ mostRecords
+  pub next-few : p .pended ≤ mostRecords
+
+-- the columns of what is found are of 64 keys
+pub record Full (f : Fronts) : Type 0 where
+  pub long-mends : length (f .mends) ≡ 64
+  pub long-ifrom : length (f .ifrom) ≡ 64
+  pub long-ito : length (f .ito) ≡ 64
+  pub long-ofrom : length (f .ofrom) ≡ 64
+  pub long-oto : length (f .oto) ≡ 64
+
+pub record Takes (R : Runs) (keys : List ℕ) (p : Progress) : Type 0 where
+  pub good : Good R
+  pub few : length keys ≤ 64
+  pub reached : Reached (R .newKeys) (R .pendingKeys) (R .inKeys) (R .outKeys) keys p
+  pub next-few : p .pended ≤ mostRecords
+  pub fits : p .over ≡ false → p .large ≡ false → p .fixes ≤ mostRecords
+  pub counts : p .over ≡ false → p .large ≡ false → p .crossings < 2 ^ 60
+
+pub record Turned (R : Runs) (mode : ℕ) (keys : List ℕ) (p : Progress) (nk nt fk fv ft : List ℕ) (fd : List ℤ) (nk′ nt′ fk′ fv′ ft′ : List ℕ) (fd′ : List ℤ) (r : Progress) : Type 0 where
+  pub new-is : r .new ≡ endFrom (R .newKeys) (p .new) keys
+  pub pending-is : r .pending ≡ endFrom (R .pendingKeys) (p .pending) keys
+  pub input-is : r .input ≡ endFrom (R .inKeys) (p .input) keys
+  pub out-is : r .out ≡ endFrom (R .outKeys) (p .out) keys
+  pub over-is : r .over ≡ windowOver (p .over) (p .pended) (map (foundOf R) keys)
+  pub next-few : r .pended ≤ mostRecords
+  pub next-keys : r .over ≡ false → Column nk (p .pended) (firstsOf (pendedRow keys (map (foundOf R) keys))) nk′ (r .pended)
+  pub next-times : r .over ≡ false → Column nt (p .pended) (secondsOf (pendedRow keys (map (foundOf R) keys))) nt′ (r .pended)
+  pub stays-large : p .large ≡ true → r .large ≡ true
+  pub settles : r .over ≡ false → p .large ≡ false → Settles (windowRows mode mostMoments (map (slotAt R) keys)) (windowCrossings mode mostMoments (map (slotAt R) keys)) (settledOf p) (settledOf r) fk fv ft fd fk′ fv′ ft′ fd′

@@ -1,0 +1,168 @@
+// The two halves of a window's turn. Between them, what is found of the window's keys stands in columns by value.
+use crate::Fronts;
+use mending::correct_window;
+use seeking::Progress;
+use seeking::seek_window;
+ghost use lib.ListN.{length, take};
+ghost use Rattle.backends.specs.Crossing.{segments};
+ghost use Rattle.moments.specs.Present.{edits};
+ghost use Rattle.moments.specs.Window.{partsOf};
+ghost use Rattle.seeking.specs.Sought.{foundIn, Seeks, Reached, Sought};
+ghost use Rattle.mending.specs.Corrected.{Wide, Corrects, Corrected};
+ghost use Rattle.turns.specs.Worked.{LentFronts, Full};
+
+// Finds a window's parts, moments and pended times. Two columns of its scratch are its own.
+pub fn seek_fronts(
+    upper: &[u64],
+    keys: &[u64],
+    newkeys: &[u64],
+    newtimes: &[u64],
+    pendingkeys: &[u64],
+    pendingtimes: &[u64],
+    tk: &[u64],
+    tv: &[u64],
+    tt: &[u64],
+    td: &[i64],
+    outkeys: &[u64],
+    outtimes: &[u64],
+    seeds: &mut [u64],
+    uv: &mut [u64],
+    ut: &mut [u64],
+    ud: &mut [i64],
+    output: &mut [u64],
+    res: &mut [u64],
+    waiting: &mut [u64],
+    tracked: &mut [u64],
+    moments: &mut [u64],
+    pended: &mut [u64],
+    wv: &mut [u64],
+    id: &mut [i64],
+    nk: &mut [u64],
+    nt: &mut [u64],
+    p: Progress,
+) -> Fronts
+    requires { ⌜ LentFronts (now keys) (now seeds) (now uv) (now ut) (now ud) (now output) (now res) (now waiting) (now tracked) (now moments) (now pended) (now wv) (now id) (now nk) (now nt) p ⌝ }
+    requires { ⌜ Seeks (now newkeys) (now newtimes) (now pendingkeys) (now pendingtimes) (now tk) (now tv) (now tt) (now td) (now outkeys) (now outtimes) × Reached (now newkeys) (now pendingkeys) (now tk) (now outkeys) (now keys) p ⌝ }
+    ensures { λ r. ⌜ Full r × Sought (foundIn (now (upper .entry)) (now (newkeys .entry)) (now (newtimes .entry)) (now (pendingkeys .entry)) (now (pendingtimes .entry)) (now (tk .entry)) (now (tv .entry)) (now (tt .entry)) (now (td .entry)) (now (outkeys .entry)) (now (outtimes .entry))) (now (newkeys .entry)) (now (pendingkeys .entry)) (now (tk .entry)) (now (outkeys .entry)) (now (keys .entry)) p (now (nk .entry)) (now (nt .entry)) (now (moments .exit)) (now (nk .exit)) (now (nt .exit)) (r .mends) (r .ifrom) (r .ito) (r .ofrom) (r .oto) (r .progress) ⌝ }
+{
+    let mut work = [0u64; 8192];
+    let mut places = [0u64; 8192];
+    let mut mends = [0usize; 64];
+    let mut ifrom = [0usize; 64];
+    let mut ito = [0usize; 64];
+    let mut ofrom = [0usize; 64];
+    let mut oto = [0usize; 64];
+    let progress = seek_window(
+        upper,
+        keys,
+        newkeys,
+        newtimes,
+        pendingkeys,
+        pendingtimes,
+        tk,
+        tv,
+        tt,
+        td,
+        outkeys,
+        outtimes,
+        seeds,
+        uv,
+        ut,
+        ud,
+        output,
+        res,
+        waiting,
+        tracked,
+        moments,
+        pended,
+        &mut work,
+        &mut places,
+        wv,
+        id,
+        nk,
+        nt,
+        &mut mends,
+        &mut ifrom,
+        &mut ito,
+        &mut ofrom,
+        &mut oto,
+        p,
+    );
+    Fronts {
+        mends,
+        ifrom,
+        ito,
+        ofrom,
+        oto,
+        progress,
+    }
+}
+
+// Settles a window's rounds, from the fronts of the columns of what was found.
+pub fn correct_fronts(
+    mode: u64,
+    keys: &[u64],
+    moments: &[u64],
+    tv: &[u64],
+    tt: &[u64],
+    td: &[i64],
+    outvalues: &[u64],
+    outtimes: &[u64],
+    outdiffs: &[i64],
+    uv: &mut [u64],
+    ut: &mut [u64],
+    ud: &mut [i64],
+    iv: &mut [u64],
+    id: &mut [i64],
+    ov: &mut [u64],
+    od: &mut [i64],
+    cd: &mut [i64],
+    fk: &mut [u64],
+    fv: &mut [u64],
+    ft: &mut [u64],
+    fd: &mut [i64],
+    res: &mut [u64],
+    f: Fronts,
+) -> Progress
+    requires { ⌜ Wide (now uv) (now ut) (now ud) (now iv) (now id) (now ov) (now od) (now cd) (now res) ⌝ }
+    requires { ⌜ Full f × Corrects (now keys) (now moments) (take (length (now keys)) (f .mends)) (take (length (now keys)) (f .ifrom)) (take (length (now keys)) (f .ito)) (now tv) (now tt) (now td) (take (length (now keys)) (f .ofrom)) (take (length (now keys)) (f .oto)) (now outvalues) (now outtimes) (now outdiffs) (now fk) (now fv) (now ft) (now fd) (f .progress) ⌝ }
+    ensures { λ r. ⌜ Corrected mode (now (keys .entry)) (partsOf (take (length (now (keys .entry))) (f .ifrom)) (take (length (now (keys .entry))) (f .ito)) (edits (now (tv .entry)) (now (tt .entry)) (now (td .entry)))) (partsOf (take (length (now (keys .entry))) (f .ofrom)) (take (length (now (keys .entry))) (f .oto)) (edits (now (outvalues .entry)) (now (outtimes .entry)) (now (outdiffs .entry)))) (segments 0 (take (length (now (keys .entry))) (f .mends)) (now (moments .entry))) (f .progress) r (now (fk .entry)) (now (fv .entry)) (now (ft .entry)) (now (fd .entry)) (now (fk .exit)) (now (fv .exit)) (now (ft .exit)) (now (fd .exit)) ⌝ }
+{
+    let n = keys.len();
+    let mends = f.mends;
+    let ifrom = f.ifrom;
+    let ito = f.ito;
+    let ofrom = f.ofrom;
+    let oto = f.oto;
+    let p = f.progress;
+    correct_window(
+        mode,
+        keys,
+        moments,
+        &mends[0..n],
+        &ifrom[0..n],
+        &ito[0..n],
+        tv,
+        tt,
+        td,
+        &ofrom[0..n],
+        &oto[0..n],
+        outvalues,
+        outtimes,
+        outdiffs,
+        uv,
+        ut,
+        ud,
+        iv,
+        id,
+        ov,
+        od,
+        cd,
+        fk,
+        fv,
+        ft,
+        fd,
+        res,
+        p,
+    )
+}

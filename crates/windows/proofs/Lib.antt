@@ -1,0 +1,4 @@
+pub mod Counts
+pub mod Asking
+pub mod Looping
+pub mod Going
