@@ -1,0 +1,72 @@
+//! Checks by hand of document 01, through the boundary.
+use daniskol::{Mode, Refusal, Run, Status, Tactic, Time};
+
+const START: [Time; 1] = [Time::new(0, 0)];
+
+fn at(hour: u32, round: u32) -> u64 {
+    Time::new(hour, round).packed()
+}
+
+// Two edits that stand in no order, up to (1,1); then the call in which their join comes due.
+#[test]
+fn a_pended_join_is_kept_and_settled_by_the_next_call() {
+    let mut tactic = Tactic::new(Mode::Count, 1);
+    let times = [at(0, 1), at(1, 0)];
+    let new = Run { keys: &[7, 7], values: &[1, 1], times: &times, diffs: &[1, 1] };
+    let meet = [Time::new(1, 1)];
+    let first = tactic.retire(Run::EMPTY, new, Run::EMPTY, &START, &meet, &START).unwrap();
+    assert_eq!((first.status, first.fixes.len(), first.frontier.as_slice()), (Status::Worked, 2, &meet[..]));
+    assert_eq!(tactic.pending().collect::<Vec<_>>(), [(7, Time::new(1, 1))]);
+
+    // The first call's corrections are old output now.
+    let one = (1 << 63) + 1;
+    let out = Run { keys: &[7, 7], values: &[one, one], times: &times, diffs: &[1, 1] };
+    let then = tactic.retire(new, Run::EMPTY, out, &meet, &[], &meet).unwrap();
+    let fixes: Vec<_> = then.fixes.iter().map(|f| (f.value, f.time, f.diff)).collect();
+    assert_eq!(fixes, [(one, Time::new(1, 1), -2), (one + 1, Time::new(1, 1), 1)]);
+    assert_eq!((then.tiles.len(), then.frontier.len(), tactic.pending().count()), (1, 0, 0));
+    assert_eq!((then.tiles[0].lower.as_slice(), then.tiles[0].upper.len(), then.tiles[0].held), (&meet[..], 0, meet[0]));
+}
+
+#[test]
+fn a_refused_call_keeps_the_pending_list() {
+    let mut tactic = Tactic::new(Mode::Count, 1);
+    let times = [at(0, 1), at(1, 0)];
+    let new = Run { keys: &[7, 7], values: &[1, 1], times: &times, diffs: &[1, 1] };
+    let meet = [Time::new(1, 1)];
+    tactic.retire(Run::EMPTY, new, Run::EMPTY, &START, &meet, &START).unwrap();
+    let zero = Run { keys: &[7], values: &[1], times: &times[..1], diffs: &[0] };
+    assert_eq!(tactic.retire(zero, Run::EMPTY, Run::EMPTY, &meet, &[], &meet), Err(Refusal::Run));
+    let uneven = Run { keys: &[7], values: &[], times: &[], diffs: &[] };
+    assert_eq!(tactic.retire(uneven, Run::EMPTY, Run::EMPTY, &meet, &[], &meet), Err(Refusal::Sizes));
+    assert_eq!(tactic.pending().count(), 1);
+}
+
+#[test]
+fn statuses_without_work() {
+    let mut tactic = Tactic::new(Mode::Distinct, 64);
+    let nothing = tactic.retire(Run::EMPTY, Run::EMPTY, Run::EMPTY, &START, &[], &START).unwrap();
+    assert_eq!((nothing.status, nothing.tiles.len()), (Status::NothingChanged, 0));
+    let held = [Time::new(3, 3)];
+    let quiet = tactic.retire(Run::EMPTY, Run::EMPTY, Run::EMPTY, &START, &[Time::new(2, 2)], &held).unwrap();
+    assert_eq!((quiet.status, quiet.frontier.as_slice()), (Status::Quiet, &held[..]));
+    assert_eq!(Tactic::new(Mode::Count, 65).retire(Run::EMPTY, Run::EMPTY, Run::EMPTY, &START, &[], &START), Err(Refusal::Sizes));
+}
+
+// A count of sheets that is corrected twice at one tray, in distinct windows of one key.
+#[test]
+fn windows_of_any_width_give_the_same_corrections() {
+    let keys: Vec<u64> = (0..200).flat_map(|k| [k, k]).collect();
+    let values: Vec<u64> = (0..400).map(|i| i % 2).collect();
+    let times: Vec<u64> = (0..400).map(|i| if i % 2 == 0 { at(0, 1) } else { at(1, 0) }).collect();
+    let diffs = vec![1; 400];
+    let new = Run { keys: &keys, values: &values, times: &times, diffs: &diffs };
+    let mut answers = [1, 7, 64].map(|width| Tactic::new(Mode::Count, width).retire(Run::EMPTY, new, Run::EMPTY, &START, &[], &START).unwrap());
+    assert_eq!(answers.each_ref().map(|a| a.crossings), [600, 29 * 3, 4 * 3]);
+    for a in &mut answers {
+        a.crossings = 0;
+    }
+    assert_eq!(answers[0], answers[1]);
+    assert_eq!(answers[0], answers[2]);
+    assert_eq!(answers[0].fixes.len(), 800);
+}

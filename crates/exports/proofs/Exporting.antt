@@ -1,0 +1,30 @@
+-- The call as other languages make it.
+--
+-- written: six numbers written one after another. export-short, export-long: what the call says with no room for counts, and with it
+use Prim.Native.Nat.{ℕ, _≤_, _<_}
+use native.Mathlib.Omega.{arith}
+use mathlib.Core.List.{List, [], _∷_, _++_}
+use mathlib.Core.Path.{_≡_, refl}
+use lib.ListN.{length, drop, set}
+use Rattle.rules.specs.Memory.{Memory, Lent}
+use Rattle.retire.specs.Answers.{Retires}
+use Rattle.retire.specs.Lending.{sizes}
+use Rattle.answers.specs.declared.Outcome.{Outcome}
+use Rattle.exports.specs.Exported.{counted, Told, Untouched, Exported}
+
+pub written : (o : Outcome) (l : List ℕ) → 6 ≤ length l
+    → set (set (set (set (set (set l 0 (o .status)) 1 (o .crossings)) 2 (o .tiles)) 3 (o .fixes)) 4 (o .pending)) 5 (o .frontier) ≡ counted o ++ drop 6 l
+unfolding counted
+written o [] h = absurd (omega arith)
+written o (a ∷ []) h = absurd (omega arith)
+written o (a ∷ b ∷ []) h = absurd (omega arith)
+written o (a ∷ b ∷ c ∷ []) h = absurd (omega arith)
+written o (a ∷ b ∷ c ∷ d ∷ []) h = absurd (omega arith)
+written o (a ∷ b ∷ c ∷ d ∷ e ∷ []) h = absurd (omega arith)
+written o (a ∷ b ∷ c ∷ d ∷ e ∷ f ∷ l) h = refl
+
+pub export-short : (l : Lent) (counts : List ℕ) → length counts < 6 → Exported l counts counts (l .memory) 11
+export-short l counts h = record { short = λ _. record { refused = refl; same-counts = refl; same-memory = refl }; long = λ k. absurd (omega (arith, h, k)) }
+
+pub export-long : {l : Lent} {counts counts′ : List ℕ} {m : Memory} {o : Outcome} → 6 ≤ length counts → Retires sizes l o m → counts′ ≡ counted o ++ drop 6 counts → Exported l counts counts′ m (o .status)
+export-long {o = o} h r c = record { short = λ k. absurd (omega (arith, h, k)); long = λ _. record { outcome = o; retires = r; status-is = refl; counts-are = c } }

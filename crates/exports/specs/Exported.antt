@@ -1,0 +1,30 @@
+-- The call as other languages make it: an outcome is a status and six numbers.
+--
+-- counted: the six numbers of an outcome
+-- Exported l: the call that was lent l says r and counts, and leaves m; with no room for counts, 11, and all is untouched
+use Prim.Native.Nat.{ℕ, _≤_, _<_}
+use mathlib.Core.List.{List, [], _∷_, _++_}
+use mathlib.Core.Path.{_≡_}
+use lib.ListN.{length, drop}
+use Rattle.rules.specs.Memory.{Memory, Lent}
+use Rattle.retire.specs.Answers.{Retires}
+use Rattle.retire.specs.Lending.{sizes}
+use Rattle.answers.specs.declared.Outcome.{Outcome}
+
+unfoldable pub counted : Outcome → List ℕ
+counted o = o .status ∷ o .crossings ∷ o .tiles ∷ o .fixes ∷ o .pending ∷ o .frontier ∷ []
+
+pub record Told (l : Lent) (counts counts′ : List ℕ) (m : Memory) (r : ℕ) : Type 0 where
+  pub outcome : Outcome
+  pub retires : Retires sizes l outcome m
+  pub status-is : r ≡ outcome .status
+  pub counts-are : counts′ ≡ counted outcome ++ drop 6 counts
+
+pub record Untouched (l : Lent) (counts counts′ : List ℕ) (m : Memory) (r : ℕ) : Type 0 where
+  pub refused : r ≡ 11
+  pub same-counts : counts′ ≡ counts
+  pub same-memory : m ≡ l .memory
+
+pub record Exported (l : Lent) (counts counts′ : List ℕ) (m : Memory) (r : ℕ) : Type 0 where
+  pub short : length counts < 6 → Untouched l counts counts′ m r
+  pub long : 6 ≤ length counts → Told l counts counts′ m r
