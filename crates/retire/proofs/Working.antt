@@ -1,7 +1,7 @@
 -- A call that works: what the checks say of its runs, and what it leaves.
 --
 -- begins, begins-room: a call of status 0 before work, and how long its memory is. runsOf l c: its runs as its windows read them, c being its input
--- forms, forms-room: what forming the input asks. asked, few, answering: the runs are the request's, and are as the rest of the work asks
+-- forms, forms-room: what forming the input asks. form-lends: so its places find room too. asked, few, answering: the runs are the request's, and are as the rest of the work asks
 -- tells-same: result memory may be scratch before it is written. work-retires: what the call says and leaves
 -- formed-part, kept, reach, same-six, same-two: lengths
 use Prim.Native.Nat.{ℕ, _+_, _-_, _≤_}
@@ -33,7 +33,7 @@ use Rattle.answers.specs.declared.Outcome.{Outcome}
 use Rattle.turns.specs.Runs.{Runs, runs, Good, Asked}
 use Rattle.retire.specs.Answers.{Retires}
 use Rattle.retire.specs.Lending.{sizes, memory, lent}
-use Rattle.retire.specs.Parts.{Checked, Begins, Answering, Answered}
+use Rattle.retire.specs.Parts.{Checked, Begins, Forms, Answering, Answered}
 use Rattle.retire.proofs.Lending.{lent-level, lent-room, Room, room-of, Small, small-of, pairs-length, retired-retires}
 
 -- ---- the columns of a run
@@ -117,15 +117,15 @@ module _ {l : Lent} (B : Begins l) where
       }
 
   pub forms-room :
-      {res : List ℕ} {rd : List ℤ} {moments tk tv tt uv ut : List ℕ} {td ud : List ℤ} {places : List ℕ}
-      → Room res rd moments tk tv tt uv ut td ud → length places ≡ 8192
-      → Lending (length (l .old .keys) + length (l .new .keys)) (columns uv ut moments ud) places res (columns tk tv tt td)
-  forms-room r e =
+      {res : List ℕ} {rd : List ℤ} {moments tk tv tt uv ut : List ℕ} {td ud : List ℤ}
+      → Room res rd moments tk tv tt uv ut td ud
+      → Forms (length (l .old .keys) + length (l .new .keys)) (columns uv ut moments ud) res (columns tk tv tt td)
+  forms-room r =
       let o = old-few in
       let n = new-few in
       record {
+        few = omega arith;
         for-both = record { for-keys = omega (arith, r .for-uv); for-values = omega (arith, r .for-ut); for-times = omega (arith, r .for-moments); for-diffs = omega (arith, r .for-ud) };
-        for-places = omega arith;
         for-work = omega (arith, r .for-numbers);
         for-all = record { for-keys = omega (arith, r .for-tk); for-values = omega (arith, r .for-tv); for-times = omega (arith, r .for-tt); for-diffs = omega (arith, r .for-td) };
       }
@@ -208,6 +208,9 @@ works-writes q W =
 leaves-same : {A : Type 0} (z : A) (status : ℕ) (s s′ xs : List A) → (leb 11 status && leb status 17) ≡ false → length s′ ≡ length s → leaves z status s′ xs ≡ leaves z status s xs
 unfolding leaves
 leaves-same z status s s′ xs e h = rw (e, h)
+
+pub form-lends : {n : ℕ} {both all : Columns} {work : List ℕ} (places : List ℕ) → length places ≡ 8192 → Forms n both work all → Lending n both places work all
+form-lends places e f = record { for-both = f .for-both; for-places = omega (arith, f .few); for-work = f .for-work; for-all = f .for-all }
 
 pub tells-same : {q : Request} {r : Outcome} {res s res′ : List ℕ} {rd rd′ : List ℤ} → Works q → length s ≡ length res → Tells (call q) r s res′ rd rd′ → Tells (call q) r res res′ rd rd′
 tells-same {q} {res = res} {s = s} W h t = record {

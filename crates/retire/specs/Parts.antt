@@ -4,7 +4,7 @@
 -- Retired a m r m′: r is said of the answer a, and memory, which was m, holds what it holds after that answer
 -- idleAnswer s q: the answer of a call that does no work, of status s. Idles: what it asks. SaidIdle, Idled: what it leaves
 -- Begins l: what was lent passed the checks, and the call works
--- Answering: what the work asks once the input is formed. Answered: it answers any request whose runs these are
+-- Forms: what forming the input asks. Answering: what the work asks once the input is formed. Answered: it answers any request whose runs these are
 use Prim.Native.Nat.{ℕ, _≤_, _<_}
 use mathlib.Core.Bool.{true, cond}
 use mathlib.Core.List.{List, [], _++_}
@@ -13,11 +13,12 @@ use lib.Dec.{eqb}
 use lib.IntN.{ℤ}
 use lib.ListN.{length}
 use Rattle.grid.specs.Frontiers.{mostTimes}
-use Rattle.grid.specs.Records.{mostRecords, pairs}
+use Rattle.grid.specs.Records.{Columns, mostRecords, pairs}
 use Rattle.grid.specs.Times.{puts}
 use Rattle.rules.specs.Call.{Request, Answer, verdict, refused, quietAnswer, call}
 use Rattle.rules.specs.Memory.{Memory, Lent, numbersSize, lentWell, requestOf, after}
 use Rattle.rules.proofs.Statuses.{Works}
+use Rattle.input.specs.Formed.{Fits}
 use Rattle.finding.specs.Tallies.{mostInput, mostWindow}
 use Rattle.results.specs.Told.{Quiet}
 use Rattle.answers.specs.Tells.{Tells}
@@ -51,6 +52,13 @@ pub record Idled (s : ℕ) (held ks ts : List ℕ) (m : Memory) (r : Outcome) (m
 pub record Begins (l : Lent) : Type 0 where
   pub well : lentWell sizes l ≡ true
   pub works : Works (requestOf l)
+
+-- n records of the input find room
+pub record Forms (n : ℕ) (both : Columns) (work : List ℕ) (all : Columns) : Type 0 where
+  pub few : n ≤ mostInput
+  pub for-both : Fits n both
+  pub for-work : n ≤ length work
+  pub for-all : Fits n all
 
 pub record Answering (R : Runs) (width : ℕ) (lower held moments uv ut : List ℕ) (ud : List ℤ) (res : List ℕ) (rd : List ℤ) : Type 0 where
   pub good : Good R
