@@ -1,10 +1,11 @@
-"""plot.py FIGURES OUT.svg: the ratios ours / crate of bench/run as bars, instructions and time, on a logarithmic axis. Standard library alone."""
+"""plot.py FIGURES OUT.svg: the ratios ours / crate of bench/run as bars, instructions and time, on a logarithmic axis; prints them as a table.
+Standard library alone."""
 import math
 import sys
 
 LEFT, RIGHT, ROW, TOP = 190, 70, 20, 56
 WIDTH = 520
-LOW, HIGH = 0.125, 16.0
+LOW, HIGH = 0.25, 128.0
 INK, FAST, SLOW, TIME = "#222222", "#2f7d4f", "#b5482f", "#9aa5b1"
 
 
@@ -48,7 +49,16 @@ def plot(rows):
     return "\n".join(out)
 
 
+def table(rows):
+    yield "| shape | instructions | time |"
+    yield "|---|---|---|"
+    for name, count, time in rows:
+        yield f"| {name} | {count:.2f} | {time:.2f} |"
+
+
 if __name__ == "__main__":
     source, target = sys.argv[1:]
+    rows = list(figures(source))
     with open(target, "w") as f:
-        f.write(plot(list(figures(source))))
+        f.write(plot(rows))
+    print("\n".join(table(rows)))
