@@ -76,14 +76,12 @@ fn shapes() -> Vec<Shape> {
     let mut l = Vec::new();
     for (mode, word) in [(1, "count"), (2, "distinct")] {
         let mut add = |kind: &'static str, keys: u64, times: usize, values: u64| l.push(Shape { name: format!("{word}-{kind}-{keys}x{times}x{values}"), mode, kind, keys, times, values });
-        // As many keys as 4,096 corrections allow: a count takes one back and writes another.
-        let most = if mode == 1 { 2048 } else { 4096 };
         for kind in ["chain", "grid"] {
-            for (keys, times, values) in [(1, 1024, 4), (16, 64, 4), (256, 4, 4), (most, 1, 1)] {
+            for (keys, times, values) in [(1, 1024, 4), (16, 64, 4), (256, 4, 4), (4096, 1, 1)] {
                 add(kind, keys, times, values);
             }
         }
-        for (keys, times, values) in [(1, 44, 4), (16, 15, 4), (256, 3, 4)] {
+        for (keys, times, values) in [(1, 44, 4), (16, 32, 4), (256, 4, 4)] {
             add("antichain", keys, times, values);
         }
         for keys in [1, 16, 256, 4096] {
