@@ -65,12 +65,12 @@ module _ {R : Runs} {width : ℕ} {lower held moments uv ut : List ℕ} {ud : Li
 
   -- ---- the windows
   pub lent-work :
-      {iv : List ℕ} {id : List ℤ} {ov : List ℕ} {od cd : List ℤ} {wv seeds output waiting tracked pended nk nt fk fv ft : List ℕ} {fd : List ℤ}
+      {iv : List ℕ} {id : List ℤ} {ov : List ℕ} {od cd : List ℤ} {wv seeds output tracked nk nt fk fv ft : List ℕ} {fd : List ℤ}
       → length iv ≡ 8192 → length id ≡ 8192 → length ov ≡ 8192 → length od ≡ 8192 → length cd ≡ 16384 → length wv ≡ 8192
-      → length seeds ≡ 4096 → length output ≡ 4096 → length waiting ≡ 1025 → length tracked ≡ 5121 → length pended ≡ 1025
+      → length seeds ≡ 4096 → length output ≡ 4096 → length tracked ≡ 5121
       → length nk ≡ 4096 → length nt ≡ 4096 → length fk ≡ 4096 → length fv ≡ 4096 → length ft ≡ 4096 → length fd ≡ 4096
-      → LentWork moments (take 8192 uv) (take 8192 ut) (take 8192 ud) iv id ov od cd wv seeds output waiting tracked pended nk nt fk fv ft fd res
-  lent-work a b c d e f g h i j k l m n o p q = record {
+      → LentWork moments (take 8192 uv) (take 8192 ut) (take 8192 ud) iv id ov od cd wv seeds output tracked nk nt fk fv ft fd res
+  lent-work a b c d e f g h i j k l m n o = record {
     moments-room = A .room-moments;
     wide = record {
       long-uv = rw length-take (omega (arith, A .room-values));
@@ -86,12 +86,10 @@ module _ {R : Runs} {width : ℕ} {lower held moments uv ut : List ℕ} {ud : Li
     long-wv = f;
     long-seeds = g;
     long-output = h;
-    long-waiting = i;
-    long-tracked = j;
-    long-pended = k;
-    long-nk = l;
-    long-nt = m;
-    lent = record { long-k = n; long-v = o; long-t = p; long-d = q };
+    long-tracked = i;
+    long-nk = j;
+    long-nt = k;
+    lent = record { long-k = l; long-v = m; long-t = n; long-d = o };
   }
 
   -- ---- the answer

@@ -47,9 +47,7 @@ pub fn answer(
     let mut wv = [0u64; 8192];
     let mut seeds = [0u64; 4096];
     let mut output = [0u64; 4096];
-    let mut waiting = [0u64; 1025];
     let mut tracked = [0u64; 5121];
-    let mut pended = [0u64; 1025];
     let mut nk = [0u64; 4096];
     let mut nt = [0u64; 4096];
     let mut fk = [0u64; 4096];
@@ -85,9 +83,7 @@ pub fn answer(
         &mut wv,
         &mut seeds,
         &mut output,
-        &mut waiting,
         &mut tracked,
-        &mut pended,
         &mut nk,
         &mut nt,
         &mut fk,

@@ -60,9 +60,9 @@ module _ {R : Runs} (g : Good R) where
   }
 
 -- ---- memory
-module _ {moments uv ut : List ℕ} {ud : List ℤ} {iv : List ℕ} {id : List ℤ} {ov : List ℕ} {od cd : List ℤ} {wv seeds output waiting tracked pended nk nt fk fv ft : List ℕ} {fd : List ℤ} {res : List ℕ}
-    (l : LentWork moments uv ut ud iv id ov od cd wv seeds output waiting tracked pended nk nt fk fv ft fd res) where
-  pub turn-lends : {R : Runs} {keys : List ℕ} {p : Progress} → Takes R keys p → LentFronts keys seeds uv ut ud output res waiting tracked moments pended wv id nk nt p
+module _ {moments uv ut : List ℕ} {ud : List ℤ} {iv : List ℕ} {id : List ℤ} {ov : List ℕ} {od cd : List ℤ} {wv seeds output tracked nk nt fk fv ft : List ℕ} {fd : List ℤ} {res : List ℕ}
+    (l : LentWork moments uv ut ud iv id ov od cd wv seeds output tracked nk nt fk fv ft fd res) where
+  pub turn-lends : {R : Runs} {keys : List ℕ} {p : Progress} → Takes R keys p → LentFronts keys seeds uv ut ud output res tracked moments iv ov wv id nk nt p
   turn-lends t = record {
     keys-few = t .few;
     long-seeds = l .long-seeds;
@@ -71,10 +71,10 @@ module _ {moments uv ut : List ℕ} {ud : List ℤ} {iv : List ℕ} {id : List �
     long-ud = l .wide .long-ud;
     long-output = l .long-output;
     room-res = l .wide .room-res;
-    long-waiting = l .long-waiting;
     long-tracked = l .long-tracked;
     moments-room = l .moments-room;
-    long-pended = l .long-pended;
+    long-iv = l .wide .long-iv;
+    long-ov = l .wide .long-ov;
     long-wv = l .long-wv;
     long-id = l .wide .long-id;
     long-nk = l .long-nk;
@@ -82,35 +82,35 @@ module _ {moments uv ut : List ℕ} {ud : List ℤ} {iv : List ℕ} {id : List �
     next-few = t .next-few;
   }
 
-  pub turn-wide : {uv′ ut′ : List ℕ} {ud′ : List ℤ} {id′ : List ℤ} {res′ : List ℕ} → length uv′ ≡ length uv → length ut′ ≡ length ut → length ud′ ≡ length ud → length id′ ≡ length id → length res′ ≡ length res
-      → Wide uv′ ut′ ud′ iv id′ ov od cd res′
-  turn-wide a b c d e = record {
+  pub turn-wide : {uv′ ut′ : List ℕ} {ud′ : List ℤ} {iv′ : List ℕ} {id′ : List ℤ} {ov′ res′ : List ℕ} → length uv′ ≡ length uv → length ut′ ≡ length ut → length ud′ ≡ length ud → length iv′ ≡ length iv → length id′ ≡ length id → length ov′ ≡ length ov → length res′ ≡ length res
+      → Wide uv′ ut′ ud′ iv′ id′ ov′ od cd res′
+  turn-wide a b c d e f g = record {
     long-uv = a ∙ l .wide .long-uv;
     long-ut = b ∙ l .wide .long-ut;
     long-ud = c ∙ l .wide .long-ud;
-    long-iv = l .wide .long-iv;
-    long-id = d ∙ l .wide .long-id;
-    long-ov = l .wide .long-ov;
+    long-iv = d ∙ l .wide .long-iv;
+    long-id = e ∙ l .wide .long-id;
+    long-ov = f ∙ l .wide .long-ov;
     long-od = l .wide .long-od;
     long-cd = l .wide .long-cd;
-    room-res = rw e (l .wide .room-res);
+    room-res = rw g (l .wide .room-res);
   }
 
-module _ {keys seeds uv ut : List ℕ} {ud : List ℤ} {output res waiting tracked moments pended wv : List ℕ} {id : List ℤ} {nk nt : List ℕ} {p : Progress}
-    (l : LentFronts keys seeds uv ut ud output res waiting tracked moments pended wv id nk nt p) where
-  pub fronts-scratch : {work places : List ℕ} → length work ≡ 8192 → length places ≡ 8192 → Scratch seeds uv ut ud output res waiting tracked pended work places wv id
+module _ {keys seeds uv ut : List ℕ} {ud : List ℤ} {output res tracked moments iv ov wv : List ℕ} {id : List ℤ} {nk nt : List ℕ} {p : Progress}
+    (l : LentFronts keys seeds uv ut ud output res tracked moments iv ov wv id nk nt p) where
+  pub fronts-scratch : {waiting pended : List ℕ} → length waiting ≡ 1025 → length pended ≡ 1025 → Scratch seeds uv ut ud output res waiting tracked pended iv ov wv id
   fronts-scratch a b = record {
     seeds-room = omega (arith, l .long-seeds);
     input-alike = record { values = l .long-ut ∙ sym (l .long-uv); diffs = l .long-ud ∙ sym (l .long-uv) };
     input-room = omega (arith, l .long-uv);
     output-room = omega (arith, l .long-output);
     meets-room = l .room-res;
-    waiting-room = omega (arith, l .long-waiting);
+    waiting-room = omega (arith, a);
     tracked-room = omega (arith, l .long-tracked);
-    pended-room = omega (arith, l .long-pended);
-    work-room = omega (arith, a);
-    for-tracked = omega (arith, l .long-tracked, a);
-    places-room = omega (arith, b);
+    pended-room = omega (arith, b);
+    work-room = omega (arith, l .long-iv);
+    for-tracked = omega (arith, l .long-tracked, l .long-iv);
+    places-room = omega (arith, l .long-ov);
     wvalues-room = omega (arith, l .long-wv);
     wdiffs-room = omega (arith, l .long-id);
   }

@@ -22,21 +22,19 @@ use Rattle.turns.specs.declared.Fronts.{Fronts}
 use Rattle.turns.specs.Runs.{Runs, Good, foundOf, slotAt}
 use Rattle.mending.specs.Corrected.{settledOf, Wide}
 
-pub record LentWork (moments uv ut : List ℕ) (ud : List ℤ) (iv : List ℕ) (id : List ℤ) (ov : List ℕ) (od cd : List ℤ) (wv seeds output waiting tracked pended nk nt fk fv ft : List ℕ) (fd : List ℤ) (res : List ℕ) : Type 0 where
+pub record LentWork (moments uv ut : List ℕ) (ud : List ℤ) (iv : List ℕ) (id : List ℤ) (ov : List ℕ) (od cd : List ℤ) (wv seeds output tracked nk nt fk fv ft : List ℕ) (fd : List ℤ) (res : List ℕ) : Type 0 where
   pub moments-room : mostWindow < length moments
   pub wide : Wide uv ut ud iv id ov od cd res
   pub long-wv : length wv ≡ 8192
   pub long-seeds : length seeds ≡ mostRecords
   pub long-output : length output ≡ mostRecords
-  pub long-waiting : length waiting ≡ 1025
   pub long-tracked : length tracked ≡ 5121
-  pub long-pended : length pended ≡ 1025
   pub long-nk : length nk ≡ mostRecords
   pub long-nt : length nt ≡ mostRecords
   pub lent : LentFixes fk fv ft fd
 
 -- what the search and discovery ask of it
-pub record LentFronts (keys seeds uv ut : List ℕ) (ud : List ℤ) (output res waiting tracked moments pended wv : List ℕ) (id : List ℤ) (nk nt : List ℕ) (p : Progress) : Type 0 where
+pub record LentFronts (keys seeds uv ut : List ℕ) (ud : List ℤ) (output res tracked moments iv ov wv : List ℕ) (id : List ℤ) (nk nt : List ℕ) (p : Progress) : Type 0 where
   pub keys-few : length keys ≤ 64
   pub long-seeds : length seeds ≡ mostRecords
   pub long-uv : length uv ≡ 8192
@@ -44,10 +42,10 @@ pub record LentFronts (keys seeds uv ut : List ℕ) (ud : List ℤ) (output res 
   pub long-ud : length ud ≡ 8192
   pub long-output : length output ≡ mostRecords
   pub room-res : 20480 ≤ length res
-  pub long-waiting : length waiting ≡ 1025
   pub long-tracked : length tracked ≡ 5121
   pub moments-room : mostWindow < length moments
-  pub long-pended : length pended ≡ 1025
+  pub long-iv : length iv ≡ 8192
+  pub long-ov : length ov ≡ 8192
   pub long-wv : length wv ≡ 8192
   pub long-id : length id ≡ 8192
   pub long-nk : length nk ≡ mostRecords

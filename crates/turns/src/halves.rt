@@ -11,7 +11,7 @@ ghost use Rattle.seeking.specs.Sought.{foundIn, Seeks, Reached, Sought};
 ghost use Rattle.mending.specs.Corrected.{Wide, Corrects, Corrected};
 ghost use Rattle.turns.specs.Worked.{LentFronts, Full};
 
-// Finds a window's parts, moments and pended times. Two columns of its scratch are its own.
+// Finds a window's parts, moments and pended times. The two short columns of its scratch are its own.
 pub fn seek_fronts(
     upper: &[u64],
     keys: &[u64],
@@ -31,22 +31,22 @@ pub fn seek_fronts(
     ud: &mut [i64],
     output: &mut [u64],
     res: &mut [u64],
-    waiting: &mut [u64],
     tracked: &mut [u64],
     moments: &mut [u64],
-    pended: &mut [u64],
+    iv: &mut [u64],
+    ov: &mut [u64],
     wv: &mut [u64],
     id: &mut [i64],
     nk: &mut [u64],
     nt: &mut [u64],
     p: Progress,
 ) -> Fronts
-    requires { ⌜ LentFronts (now keys) (now seeds) (now uv) (now ut) (now ud) (now output) (now res) (now waiting) (now tracked) (now moments) (now pended) (now wv) (now id) (now nk) (now nt) p ⌝ }
+    requires { ⌜ LentFronts (now keys) (now seeds) (now uv) (now ut) (now ud) (now output) (now res) (now tracked) (now moments) (now iv) (now ov) (now wv) (now id) (now nk) (now nt) p ⌝ }
     requires { ⌜ Seeks (now newkeys) (now newtimes) (now pendingkeys) (now pendingtimes) (now tk) (now tv) (now tt) (now td) (now outkeys) (now outtimes) × Reached (now newkeys) (now pendingkeys) (now tk) (now outkeys) (now keys) p ⌝ }
     ensures { λ r. ⌜ Full r × Sought (foundIn (now (upper .entry)) (now (newkeys .entry)) (now (newtimes .entry)) (now (pendingkeys .entry)) (now (pendingtimes .entry)) (now (tk .entry)) (now (tv .entry)) (now (tt .entry)) (now (td .entry)) (now (outkeys .entry)) (now (outtimes .entry))) (now (newkeys .entry)) (now (pendingkeys .entry)) (now (tk .entry)) (now (outkeys .entry)) (now (keys .entry)) p (now (nk .entry)) (now (nt .entry)) (now (moments .exit)) (now (nk .exit)) (now (nt .exit)) (r .mends) (r .ifrom) (r .ito) (r .ofrom) (r .oto) (r .progress) ⌝ }
 {
-    let mut work = [0u64; 8192];
-    let mut places = [0u64; 8192];
+    let mut waiting = [0u64; 1025];
+    let mut pended = [0u64; 1025];
     let mut mends = [0usize; 64];
     let mut ifrom = [0usize; 64];
     let mut ito = [0usize; 64];
@@ -71,12 +71,12 @@ pub fn seek_fronts(
         ud,
         output,
         res,
-        waiting,
+        &mut waiting,
         tracked,
         moments,
-        pended,
-        &mut work,
-        &mut places,
+        &mut pended,
+        iv,
+        ov,
         wv,
         id,
         nk,

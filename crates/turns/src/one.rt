@@ -35,9 +35,7 @@ pub fn work_window(
     wv: &mut [u64],
     seeds: &mut [u64],
     output: &mut [u64],
-    waiting: &mut [u64],
     tracked: &mut [u64],
-    pended: &mut [u64],
     nk: &mut [u64],
     nt: &mut [u64],
     fk: &mut [u64],
@@ -47,7 +45,7 @@ pub fn work_window(
     res: &mut [u64],
     p: Progress,
 ) -> Progress
-    requires { ⌜ LentWork (now moments) (now uv) (now ut) (now ud) (now iv) (now id) (now ov) (now od) (now cd) (now wv) (now seeds) (now output) (now waiting) (now tracked) (now pended) (now nk) (now nt) (now fk) (now fv) (now ft) (now fd) (now res) ⌝ }
+    requires { ⌜ LentWork (now moments) (now uv) (now ut) (now ud) (now iv) (now id) (now ov) (now od) (now cd) (now wv) (now seeds) (now output) (now tracked) (now nk) (now nt) (now fk) (now fv) (now ft) (now fd) (now res) ⌝ }
     requires { ⌜ Takes (runs (now upper) (now newkeys) (now newtimes) (now pendingkeys) (now pendingtimes) (now tk) (now tv) (now tt) (now td) (now outkeys) (now outvalues) (now outtimes) (now outdiffs)) (now keys) p ⌝ }
     ensures { λ r. ⌜ Turned (runs (now (upper .entry)) (now (newkeys .entry)) (now (newtimes .entry)) (now (pendingkeys .entry)) (now (pendingtimes .entry)) (now (tk .entry)) (now (tv .entry)) (now (tt .entry)) (now (td .entry)) (now (outkeys .entry)) (now (outvalues .entry)) (now (outtimes .entry)) (now (outdiffs .entry))) mode (now (keys .entry)) p (now (nk .entry)) (now (nt .entry)) (now (fk .entry)) (now (fv .entry)) (now (ft .entry)) (now (fd .entry)) (now (nk .exit)) (now (nt .exit)) (now (fk .exit)) (now (fv .exit)) (now (ft .exit)) (now (fd .exit)) r ⌝ }
 {
@@ -70,10 +68,10 @@ pub fn work_window(
         ud,
         output,
         res,
-        waiting,
         tracked,
         moments,
-        pended,
+        iv,
+        ov,
         wv,
         id,
         nk,

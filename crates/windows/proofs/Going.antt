@@ -21,8 +21,8 @@ use Rattle.windows.specs.Looped.{Loops, Ended}
 use Rattle.windows.proofs.Looping.{Looping, fresh, looping-start, looping-takes, looping-less, looping-more, looping-end}
 
 -- ---- memory
-pub record SameLong (moments₀ uv₀ ut₀ : List ℕ) (ud₀ : List ℤ) (iv₀ : List ℕ) (id₀ : List ℤ) (ov₀ : List ℕ) (od₀ cd₀ : List ℤ) (wv₀ seeds₀ output₀ waiting₀ tracked₀ pended₀ nk₀ nt₀ fk₀ fv₀ ft₀ : List ℕ) (fd₀ : List ℤ) (res₀ : List ℕ)
-    (moments uv ut : List ℕ) (ud : List ℤ) (iv : List ℕ) (id : List ℤ) (ov : List ℕ) (od cd : List ℤ) (wv seeds output waiting tracked pended nk nt fk fv ft : List ℕ) (fd : List ℤ) (res : List ℕ) : Type 0 where
+pub record SameLong (moments₀ uv₀ ut₀ : List ℕ) (ud₀ : List ℤ) (iv₀ : List ℕ) (id₀ : List ℤ) (ov₀ : List ℕ) (od₀ cd₀ : List ℤ) (wv₀ seeds₀ output₀ tracked₀ nk₀ nt₀ fk₀ fv₀ ft₀ : List ℕ) (fd₀ : List ℤ) (res₀ : List ℕ)
+    (moments uv ut : List ℕ) (ud : List ℤ) (iv : List ℕ) (id : List ℤ) (ov : List ℕ) (od cd : List ℤ) (wv seeds output tracked nk nt fk fv ft : List ℕ) (fd : List ℤ) (res : List ℕ) : Type 0 where
   pub of-moments : length moments ≡ length moments₀
   pub of-uv : length uv ≡ length uv₀
   pub of-ut : length ut ≡ length ut₀
@@ -35,9 +35,7 @@ pub record SameLong (moments₀ uv₀ ut₀ : List ℕ) (ud₀ : List ℤ) (iv�
   pub of-wv : length wv ≡ length wv₀
   pub of-seeds : length seeds ≡ length seeds₀
   pub of-output : length output ≡ length output₀
-  pub of-waiting : length waiting ≡ length waiting₀
   pub of-tracked : length tracked ≡ length tracked₀
-  pub of-pended : length pended ≡ length pended₀
   pub of-nk : length nk ≡ length nk₀
   pub of-nt : length nt ≡ length nt₀
   pub of-fk : length fk ≡ length fk₀
@@ -46,14 +44,14 @@ pub record SameLong (moments₀ uv₀ ut₀ : List ℕ) (ud₀ : List ℤ) (iv�
   pub of-fd : length fd ≡ length fd₀
   pub of-res : length res ≡ length res₀
 
-same-start : {moments uv ut : List ℕ} {ud : List ℤ} {iv : List ℕ} {id : List ℤ} {ov : List ℕ} {od cd : List ℤ} {wv seeds output waiting tracked pended nk nt fk fv ft : List ℕ} {fd : List ℤ} {res : List ℕ}
-    → SameLong moments uv ut ud iv id ov od cd wv seeds output waiting tracked pended nk nt fk fv ft fd res moments uv ut ud iv id ov od cd wv seeds output waiting tracked pended nk nt fk fv ft fd res
-same-start = record { of-moments = refl; of-uv = refl; of-ut = refl; of-ud = refl; of-iv = refl; of-id = refl; of-ov = refl; of-od = refl; of-cd = refl; of-wv = refl; of-seeds = refl; of-output = refl; of-waiting = refl; of-tracked = refl; of-pended = refl; of-nk = refl; of-nt = refl; of-fk = refl; of-fv = refl; of-ft = refl; of-fd = refl; of-res = refl }
+same-start : {moments uv ut : List ℕ} {ud : List ℤ} {iv : List ℕ} {id : List ℤ} {ov : List ℕ} {od cd : List ℤ} {wv seeds output tracked nk nt fk fv ft : List ℕ} {fd : List ℤ} {res : List ℕ}
+    → SameLong moments uv ut ud iv id ov od cd wv seeds output tracked nk nt fk fv ft fd res moments uv ut ud iv id ov od cd wv seeds output tracked nk nt fk fv ft fd res
+same-start = record { of-moments = refl; of-uv = refl; of-ut = refl; of-ud = refl; of-iv = refl; of-id = refl; of-ov = refl; of-od = refl; of-cd = refl; of-wv = refl; of-seeds = refl; of-output = refl; of-tracked = refl; of-nk = refl; of-nt = refl; of-fk = refl; of-fv = refl; of-ft = refl; of-fd = refl; of-res = refl }
 
-module _ {moments₀ uv₀ ut₀ : List ℕ} {ud₀ : List ℤ} {iv₀ : List ℕ} {id₀ : List ℤ} {ov₀ : List ℕ} {od₀ cd₀ : List ℤ} {wv₀ seeds₀ output₀ waiting₀ tracked₀ pended₀ nk₀ nt₀ fk₀ fv₀ ft₀ : List ℕ} {fd₀ : List ℤ} {res₀ : List ℕ}
-    {moments uv ut : List ℕ} {ud : List ℤ} {iv : List ℕ} {id : List ℤ} {ov : List ℕ} {od cd : List ℤ} {wv seeds output waiting tracked pended nk nt fk fv ft : List ℕ} {fd : List ℤ} {res : List ℕ}
-    (S : SameLong moments₀ uv₀ ut₀ ud₀ iv₀ id₀ ov₀ od₀ cd₀ wv₀ seeds₀ output₀ waiting₀ tracked₀ pended₀ nk₀ nt₀ fk₀ fv₀ ft₀ fd₀ res₀ moments uv ut ud iv id ov od cd wv seeds output waiting tracked pended nk nt fk fv ft fd res) where
-  lent-still : LentWork moments₀ uv₀ ut₀ ud₀ iv₀ id₀ ov₀ od₀ cd₀ wv₀ seeds₀ output₀ waiting₀ tracked₀ pended₀ nk₀ nt₀ fk₀ fv₀ ft₀ fd₀ res₀ → LentWork moments uv ut ud iv id ov od cd wv seeds output waiting tracked pended nk nt fk fv ft fd res
+module _ {moments₀ uv₀ ut₀ : List ℕ} {ud₀ : List ℤ} {iv₀ : List ℕ} {id₀ : List ℤ} {ov₀ : List ℕ} {od₀ cd₀ : List ℤ} {wv₀ seeds₀ output₀ tracked₀ nk₀ nt₀ fk₀ fv₀ ft₀ : List ℕ} {fd₀ : List ℤ} {res₀ : List ℕ}
+    {moments uv ut : List ℕ} {ud : List ℤ} {iv : List ℕ} {id : List ℤ} {ov : List ℕ} {od cd : List ℤ} {wv seeds output tracked nk nt fk fv ft : List ℕ} {fd : List ℤ} {res : List ℕ}
+    (S : SameLong moments₀ uv₀ ut₀ ud₀ iv₀ id₀ ov₀ od₀ cd₀ wv₀ seeds₀ output₀ tracked₀ nk₀ nt₀ fk₀ fv₀ ft₀ fd₀ res₀ moments uv ut ud iv id ov od cd wv seeds output tracked nk nt fk fv ft fd res) where
+  lent-still : LentWork moments₀ uv₀ ut₀ ud₀ iv₀ id₀ ov₀ od₀ cd₀ wv₀ seeds₀ output₀ tracked₀ nk₀ nt₀ fk₀ fv₀ ft₀ fd₀ res₀ → LentWork moments uv ut ud iv id ov od cd wv seeds output tracked nk nt fk fv ft fd res
   lent-still l = record {
     moments-room = rw (S .of-moments) (l .moments-room);
     wide = record {
@@ -70,35 +68,33 @@ module _ {moments₀ uv₀ ut₀ : List ℕ} {ud₀ : List ℤ} {iv₀ : List �
     long-wv = S .of-wv ∙ l .long-wv;
     long-seeds = S .of-seeds ∙ l .long-seeds;
     long-output = S .of-output ∙ l .long-output;
-    long-waiting = S .of-waiting ∙ l .long-waiting;
     long-tracked = S .of-tracked ∙ l .long-tracked;
-    long-pended = S .of-pended ∙ l .long-pended;
     long-nk = S .of-nk ∙ l .long-nk;
     long-nt = S .of-nt ∙ l .long-nt;
     lent = record { long-k = S .of-fk ∙ l .lent .long-k; long-v = S .of-fv ∙ l .lent .long-v; long-t = S .of-ft ∙ l .lent .long-t; long-d = S .of-fd ∙ l .lent .long-d };
   }
 
-  pub same-more : {X : Type 0} {moments′ uv′ ut′ : List ℕ} {ud′ : List ℤ} {iv′ : List ℕ} {id′ : List ℤ} {ov′ : List ℕ} {od′ cd′ : List ℤ} {wv′ seeds′ output′ waiting′ tracked′ pended′ nk′ nt′ fk′ fv′ ft′ : List ℕ} {fd′ : List ℤ} {res′ : List ℕ}
-      → (length moments′ ≡ length moments) × ((length uv′ ≡ length uv) × ((length ut′ ≡ length ut) × ((length ud′ ≡ length ud) × ((length iv′ ≡ length iv) × ((length id′ ≡ length id) × ((length ov′ ≡ length ov) × ((length od′ ≡ length od) × ((length cd′ ≡ length cd) × ((length wv′ ≡ length wv) × ((length seeds′ ≡ length seeds) × ((length output′ ≡ length output) × ((length waiting′ ≡ length waiting) × ((length tracked′ ≡ length tracked) × ((length pended′ ≡ length pended) × ((length nk′ ≡ length nk) × ((length nt′ ≡ length nt) × ((length fk′ ≡ length fk) × ((length fv′ ≡ length fv) × ((length ft′ ≡ length ft) × ((length fd′ ≡ length fd) × ((length res′ ≡ length res) × X)))))))))))))))))))))
-      → SameLong moments₀ uv₀ ut₀ ud₀ iv₀ id₀ ov₀ od₀ cd₀ wv₀ seeds₀ output₀ waiting₀ tracked₀ pended₀ nk₀ nt₀ fk₀ fv₀ ft₀ fd₀ res₀ moments′ uv′ ut′ ud′ iv′ id′ ov′ od′ cd′ wv′ seeds′ output′ waiting′ tracked′ pended′ nk′ nt′ fk′ fv′ ft′ fd′ res′
-  same-more h = record { of-moments = h .0 ∙ S .of-moments; of-uv = h .1 .0 ∙ S .of-uv; of-ut = h .1 .1 .0 ∙ S .of-ut; of-ud = h .1 .1 .1 .0 ∙ S .of-ud; of-iv = h .1 .1 .1 .1 .0 ∙ S .of-iv; of-id = h .1 .1 .1 .1 .1 .0 ∙ S .of-id; of-ov = h .1 .1 .1 .1 .1 .1 .0 ∙ S .of-ov; of-od = h .1 .1 .1 .1 .1 .1 .1 .0 ∙ S .of-od; of-cd = h .1 .1 .1 .1 .1 .1 .1 .1 .0 ∙ S .of-cd; of-wv = h .1 .1 .1 .1 .1 .1 .1 .1 .1 .0 ∙ S .of-wv; of-seeds = h .1 .1 .1 .1 .1 .1 .1 .1 .1 .1 .0 ∙ S .of-seeds; of-output = h .1 .1 .1 .1 .1 .1 .1 .1 .1 .1 .1 .0 ∙ S .of-output; of-waiting = h .1 .1 .1 .1 .1 .1 .1 .1 .1 .1 .1 .1 .0 ∙ S .of-waiting; of-tracked = h .1 .1 .1 .1 .1 .1 .1 .1 .1 .1 .1 .1 .1 .0 ∙ S .of-tracked; of-pended = h .1 .1 .1 .1 .1 .1 .1 .1 .1 .1 .1 .1 .1 .1 .0 ∙ S .of-pended; of-nk = h .1 .1 .1 .1 .1 .1 .1 .1 .1 .1 .1 .1 .1 .1 .1 .0 ∙ S .of-nk; of-nt = h .1 .1 .1 .1 .1 .1 .1 .1 .1 .1 .1 .1 .1 .1 .1 .1 .0 ∙ S .of-nt; of-fk = h .1 .1 .1 .1 .1 .1 .1 .1 .1 .1 .1 .1 .1 .1 .1 .1 .1 .0 ∙ S .of-fk; of-fv = h .1 .1 .1 .1 .1 .1 .1 .1 .1 .1 .1 .1 .1 .1 .1 .1 .1 .1 .0 ∙ S .of-fv; of-ft = h .1 .1 .1 .1 .1 .1 .1 .1 .1 .1 .1 .1 .1 .1 .1 .1 .1 .1 .1 .0 ∙ S .of-ft; of-fd = h .1 .1 .1 .1 .1 .1 .1 .1 .1 .1 .1 .1 .1 .1 .1 .1 .1 .1 .1 .1 .0 ∙ S .of-fd; of-res = h .1 .1 .1 .1 .1 .1 .1 .1 .1 .1 .1 .1 .1 .1 .1 .1 .1 .1 .1 .1 .1 .0 ∙ S .of-res }
+  pub same-more : {X : Type 0} {moments′ uv′ ut′ : List ℕ} {ud′ : List ℤ} {iv′ : List ℕ} {id′ : List ℤ} {ov′ : List ℕ} {od′ cd′ : List ℤ} {wv′ seeds′ output′ tracked′ nk′ nt′ fk′ fv′ ft′ : List ℕ} {fd′ : List ℤ} {res′ : List ℕ}
+      → (length moments′ ≡ length moments) × ((length uv′ ≡ length uv) × ((length ut′ ≡ length ut) × ((length ud′ ≡ length ud) × ((length iv′ ≡ length iv) × ((length id′ ≡ length id) × ((length ov′ ≡ length ov) × ((length od′ ≡ length od) × ((length cd′ ≡ length cd) × ((length wv′ ≡ length wv) × ((length seeds′ ≡ length seeds) × ((length output′ ≡ length output) × ((length tracked′ ≡ length tracked) × ((length nk′ ≡ length nk) × ((length nt′ ≡ length nt) × ((length fk′ ≡ length fk) × ((length fv′ ≡ length fv) × ((length ft′ ≡ length ft) × ((length fd′ ≡ length fd) × ((length res′ ≡ length res) × X)))))))))))))))))))
+      → SameLong moments₀ uv₀ ut₀ ud₀ iv₀ id₀ ov₀ od₀ cd₀ wv₀ seeds₀ output₀ tracked₀ nk₀ nt₀ fk₀ fv₀ ft₀ fd₀ res₀ moments′ uv′ ut′ ud′ iv′ id′ ov′ od′ cd′ wv′ seeds′ output′ tracked′ nk′ nt′ fk′ fv′ ft′ fd′ res′
+  same-more h = record { of-moments = h .0 ∙ S .of-moments; of-uv = h .1 .0 ∙ S .of-uv; of-ut = h .1 .1 .0 ∙ S .of-ut; of-ud = h .1 .1 .1 .0 ∙ S .of-ud; of-iv = h .1 .1 .1 .1 .0 ∙ S .of-iv; of-id = h .1 .1 .1 .1 .1 .0 ∙ S .of-id; of-ov = h .1 .1 .1 .1 .1 .1 .0 ∙ S .of-ov; of-od = h .1 .1 .1 .1 .1 .1 .1 .0 ∙ S .of-od; of-cd = h .1 .1 .1 .1 .1 .1 .1 .1 .0 ∙ S .of-cd; of-wv = h .1 .1 .1 .1 .1 .1 .1 .1 .1 .0 ∙ S .of-wv; of-seeds = h .1 .1 .1 .1 .1 .1 .1 .1 .1 .1 .0 ∙ S .of-seeds; of-output = h .1 .1 .1 .1 .1 .1 .1 .1 .1 .1 .1 .0 ∙ S .of-output; of-tracked = h .1 .1 .1 .1 .1 .1 .1 .1 .1 .1 .1 .1 .0 ∙ S .of-tracked; of-nk = h .1 .1 .1 .1 .1 .1 .1 .1 .1 .1 .1 .1 .1 .0 ∙ S .of-nk; of-nt = h .1 .1 .1 .1 .1 .1 .1 .1 .1 .1 .1 .1 .1 .1 .0 ∙ S .of-nt; of-fk = h .1 .1 .1 .1 .1 .1 .1 .1 .1 .1 .1 .1 .1 .1 .1 .0 ∙ S .of-fk; of-fv = h .1 .1 .1 .1 .1 .1 .1 .1 .1 .1 .1 .1 .1 .1 .1 .1 .0 ∙ S .of-fv; of-ft = h .1 .1 .1 .1 .1 .1 .1 .1 .1 .1 .1 .1 .1 .1 .1 .1 .1 .0 ∙ S .of-ft; of-fd = h .1 .1 .1 .1 .1 .1 .1 .1 .1 .1 .1 .1 .1 .1 .1 .1 .1 .1 .0 ∙ S .of-fd; of-res = h .1 .1 .1 .1 .1 .1 .1 .1 .1 .1 .1 .1 .1 .1 .1 .1 .1 .1 .1 .0 ∙ S .of-res }
 
 -- ---- the loop
-pub record Going (R : Runs) (mode width : ℕ) (keys : List ℕ) (n : ℕ) (moments₀ uv₀ ut₀ : List ℕ) (ud₀ : List ℤ) (iv₀ : List ℕ) (id₀ : List ℤ) (ov₀ : List ℕ) (od₀ cd₀ : List ℤ) (wv₀ seeds₀ output₀ waiting₀ tracked₀ pended₀ nk₀ nt₀ fk₀ fv₀ ft₀ : List ℕ) (fd₀ : List ℤ) (res₀ : List ℕ)
-    (moments uv ut : List ℕ) (ud : List ℤ) (iv : List ℕ) (id : List ℤ) (ov : List ℕ) (od cd : List ℤ) (wv seeds output waiting tracked pended nk nt fk fv ft : List ℕ) (fd : List ℤ) (res : List ℕ) (p : ℕ) (w : Progress) : Type 0 where
+pub record Going (R : Runs) (mode width : ℕ) (keys : List ℕ) (n : ℕ) (moments₀ uv₀ ut₀ : List ℕ) (ud₀ : List ℤ) (iv₀ : List ℕ) (id₀ : List ℤ) (ov₀ : List ℕ) (od₀ cd₀ : List ℤ) (wv₀ seeds₀ output₀ tracked₀ nk₀ nt₀ fk₀ fv₀ ft₀ : List ℕ) (fd₀ : List ℤ) (res₀ : List ℕ)
+    (moments uv ut : List ℕ) (ud : List ℤ) (iv : List ℕ) (id : List ℤ) (ov : List ℕ) (od cd : List ℤ) (wv seeds output tracked nk nt fk fv ft : List ℕ) (fd : List ℤ) (res : List ℕ) (p : ℕ) (w : Progress) : Type 0 where
   pub loops : Loops R width keys
   pub all-keys : n ≡ length keys
-  pub lent : LentWork moments₀ uv₀ ut₀ ud₀ iv₀ id₀ ov₀ od₀ cd₀ wv₀ seeds₀ output₀ waiting₀ tracked₀ pended₀ nk₀ nt₀ fk₀ fv₀ ft₀ fd₀ res₀
-  pub same : SameLong moments₀ uv₀ ut₀ ud₀ iv₀ id₀ ov₀ od₀ cd₀ wv₀ seeds₀ output₀ waiting₀ tracked₀ pended₀ nk₀ nt₀ fk₀ fv₀ ft₀ fd₀ res₀ moments uv ut ud iv id ov od cd wv seeds output waiting tracked pended nk nt fk fv ft fd res
+  pub lent : LentWork moments₀ uv₀ ut₀ ud₀ iv₀ id₀ ov₀ od₀ cd₀ wv₀ seeds₀ output₀ tracked₀ nk₀ nt₀ fk₀ fv₀ ft₀ fd₀ res₀
+  pub same : SameLong moments₀ uv₀ ut₀ ud₀ iv₀ id₀ ov₀ od₀ cd₀ wv₀ seeds₀ output₀ tracked₀ nk₀ nt₀ fk₀ fv₀ ft₀ fd₀ res₀ moments uv ut ud iv id ov od cd wv seeds output tracked nk nt fk fv ft fd res
   pub looping : Looping R mode width keys nk nt fk fv ft fd p w
 
-pub going-start : {R : Runs} (mode : ℕ) {width : ℕ} {keys : List ℕ} {n : ℕ} {moments uv ut : List ℕ} {ud : List ℤ} {iv : List ℕ} {id : List ℤ} {ov : List ℕ} {od cd : List ℤ} {wv seeds output waiting tracked pended nk nt fk fv ft : List ℕ} {fd : List ℤ} {res : List ℕ}
-    → Loops R width keys → n ≡ length keys → LentWork moments uv ut ud iv id ov od cd wv seeds output waiting tracked pended nk nt fk fv ft fd res → Going R mode width keys n moments uv ut ud iv id ov od cd wv seeds output waiting tracked pended nk nt fk fv ft fd res moments uv ut ud iv id ov od cd wv seeds output waiting tracked pended nk nt fk fv ft fd res 0 fresh
+pub going-start : {R : Runs} (mode : ℕ) {width : ℕ} {keys : List ℕ} {n : ℕ} {moments uv ut : List ℕ} {ud : List ℤ} {iv : List ℕ} {id : List ℤ} {ov : List ℕ} {od cd : List ℤ} {wv seeds output tracked nk nt fk fv ft : List ℕ} {fd : List ℤ} {res : List ℕ}
+    → Loops R width keys → n ≡ length keys → LentWork moments uv ut ud iv id ov od cd wv seeds output tracked nk nt fk fv ft fd res → Going R mode width keys n moments uv ut ud iv id ov od cd wv seeds output tracked nk nt fk fv ft fd res moments uv ut ud iv id ov od cd wv seeds output tracked nk nt fk fv ft fd res 0 fresh
 going-start mode {nk = nk} {nt} {fk} {fv} {ft} {fd} l e m = record { loops = l; all-keys = e; lent = m; same = same-start; looping = looping-start mode l nk nt fk fv ft fd }
 
-module _ {R : Runs} {mode width : ℕ} {keys : List ℕ} {n : ℕ} {moments₀ uv₀ ut₀ : List ℕ} {ud₀ : List ℤ} {iv₀ : List ℕ} {id₀ : List ℤ} {ov₀ : List ℕ} {od₀ cd₀ : List ℤ} {wv₀ seeds₀ output₀ waiting₀ tracked₀ pended₀ nk₀ nt₀ fk₀ fv₀ ft₀ : List ℕ} {fd₀ : List ℤ} {res₀ : List ℕ}
-    {moments uv ut : List ℕ} {ud : List ℤ} {iv : List ℕ} {id : List ℤ} {ov : List ℕ} {od cd : List ℤ} {wv seeds output waiting tracked pended nk nt fk fv ft : List ℕ} {fd : List ℤ} {res : List ℕ} {p : ℕ} {w : Progress}
-    (g : Going R mode width keys n moments₀ uv₀ ut₀ ud₀ iv₀ id₀ ov₀ od₀ cd₀ wv₀ seeds₀ output₀ waiting₀ tracked₀ pended₀ nk₀ nt₀ fk₀ fv₀ ft₀ fd₀ res₀ moments uv ut ud iv id ov od cd wv seeds output waiting tracked pended nk nt fk fv ft fd res p w) where
+module _ {R : Runs} {mode width : ℕ} {keys : List ℕ} {n : ℕ} {moments₀ uv₀ ut₀ : List ℕ} {ud₀ : List ℤ} {iv₀ : List ℕ} {id₀ : List ℤ} {ov₀ : List ℕ} {od₀ cd₀ : List ℤ} {wv₀ seeds₀ output₀ tracked₀ nk₀ nt₀ fk₀ fv₀ ft₀ : List ℕ} {fd₀ : List ℤ} {res₀ : List ℕ}
+    {moments uv ut : List ℕ} {ud : List ℤ} {iv : List ℕ} {id : List ℤ} {ov : List ℕ} {od cd : List ℤ} {wv seeds output tracked nk nt fk fv ft : List ℕ} {fd : List ℤ} {res : List ℕ} {p : ℕ} {w : Progress}
+    (g : Going R mode width keys n moments₀ uv₀ ut₀ ud₀ iv₀ id₀ ov₀ od₀ cd₀ wv₀ seeds₀ output₀ tracked₀ nk₀ nt₀ fk₀ fv₀ ft₀ fd₀ res₀ moments uv ut ud iv id ov od cd wv seeds output tracked nk nt fk fv ft fd res p w) where
   to-length : (not (w .over) && ltb p n) ≡ (not (w .over) && ltb p (length keys))
   to-length = ap (λ i. not (w .over) && ltb p i) (g .all-keys)
 
@@ -121,7 +117,7 @@ module _ {R : Runs} {mode width : ℕ} {keys : List ℕ} {n : ℕ} {moments₀ u
     pub going-less : length keys - e < length keys - p
     going-less = looping-less (g .looping) (g .loops) goes′ e-is′
 
-    pub going-asks : LentWork moments uv ut ud iv id ov od cd wv seeds output waiting tracked pended nk nt fk fv ft fd res × Takes R (part p e keys) w
+    pub going-asks : LentWork moments uv ut ud iv id ov od cd wv seeds output tracked nk nt fk fv ft fd res × Takes R (part p e keys) w
     going-asks = (lent-still (g .same) (g .lent), looping-takes (g .looping) (g .loops) goes′ e-is′)
 
     pub going-more : {nk′ nt′ fk′ fv′ ft′ : List ℕ} {fd′ : List ℤ} {r : Progress} → Turned R mode (part p e keys) w nk nt fk fv ft fd nk′ nt′ fk′ fv′ ft′ fd′ r → Looping R mode width keys nk′ nt′ fk′ fv′ ft′ fd′ e r

@@ -61,9 +61,7 @@ pub fn work_windows(
     wv: &mut [u64],
     seeds: &mut [u64],
     output: &mut [u64],
-    waiting: &mut [u64],
     tracked: &mut [u64],
-    pended: &mut [u64],
     nk: &mut [u64],
     nt: &mut [u64],
     fk: &mut [u64],
@@ -72,7 +70,7 @@ pub fn work_windows(
     fd: &mut [i64],
     res: &mut [u64],
 ) -> Course
-    requires { ⌜ LentWork (now moments) (now uv) (now ut) (now ud) (now iv) (now id) (now ov) (now od) (now cd) (now wv) (now seeds) (now output) (now waiting) (now tracked) (now pended) (now nk) (now nt) (now fk) (now fv) (now ft) (now fd) (now res) ⌝ }
+    requires { ⌜ LentWork (now moments) (now uv) (now ut) (now ud) (now iv) (now id) (now ov) (now od) (now cd) (now wv) (now seeds) (now output) (now tracked) (now nk) (now nt) (now fk) (now fv) (now ft) (now fd) (now res) ⌝ }
     requires { ⌜ Loops (runs (now upper) (now newkeys) (now newtimes) (now pendingkeys) (now pendingtimes) (now tk) (now tv) (now tt) (now td) (now outkeys) (now outvalues) (now outtimes) (now outdiffs)) width (now keys) ⌝ }
     ensures { λ r. ⌜ Ended (runs (now (upper .entry)) (now (newkeys .entry)) (now (newtimes .entry)) (now (pendingkeys .entry)) (now (pendingtimes .entry)) (now (tk .entry)) (now (tv .entry)) (now (tt .entry)) (now (td .entry)) (now (outkeys .entry)) (now (outvalues .entry)) (now (outtimes .entry)) (now (outdiffs .entry))) mode width (now (keys .entry)) (now (nk .exit)) (now (nt .exit)) (now (fk .exit)) (now (fv .exit)) (now (ft .exit)) (now (fd .exit)) r ⌝ }
 {
@@ -119,9 +117,7 @@ pub fn work_windows(
             wv,
             seeds,
             output,
-            waiting,
             tracked,
-            pended,
             nk,
             nt,
             fk,
