@@ -20,8 +20,8 @@ use Rattle.form.specs.Read.{Asked, bad, asked, parse}
 use Rattle.form.specs.Show.{showAnswer, showBad, reply}
 use Rattle.form.proofs.Room.{mostText}
 use Rattle.checks.specs.Checks.{columns}
-use Rattle.retire.specs.Answers.{Retires}
-use Rattle.retire.specs.Lending.{sizes, memory, lent}
+use Rattle.demands.specs.Answers.{Retires}
+use Rattle.demands.specs.Lending.{sizes, memory, lent}
 use Rattle.reading.specs.declared.Counts.{Counts}
 use Rattle.reading.specs.declared.Request.{Request}
 use Rattle.reading.specs.declared.Request.the-variants.{Bad, Asked as IsAsked}

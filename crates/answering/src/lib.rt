@@ -13,7 +13,7 @@ ghost use Rattle.form.specs.Read.{parse};
 ghost use Rattle.form.specs.Show.{reply};
 ghost use Rattle.form.proofs.Room.{mostText};
 ghost use Rattle.checks.specs.Checks.{columns};
-ghost use Rattle.retire.specs.Lending.{lent};
+ghost use Rattle.demands.specs.Lending.{lent};
 ghost use Rattle.reading.specs.declared.Request.the-variants.{Asked as IsAsked};
 ghost use Rattle.answering.specs.Replied.{Replied};
 ghost use Rattle.answering.specs.Asking.{bytesOf, resultsOf, Holds, noMemory, Asks};

@@ -7,8 +7,8 @@ use mathlib.Core.List.{List, [], _∷_, _++_}
 use mathlib.Core.Path.{_≡_, refl}
 use lib.ListN.{length, drop, set}
 use Rattle.rules.specs.Memory.{Memory, Lent}
-use Rattle.retire.specs.Answers.{Retires}
-use Rattle.retire.specs.Lending.{sizes}
+use Rattle.demands.specs.Answers.{Retires}
+use Rattle.demands.specs.Lending.{sizes}
 use Rattle.answers.specs.declared.Outcome.{Outcome}
 use Rattle.exports.specs.Exported.{counted, Told, Untouched, Exported}
 

@@ -7,8 +7,8 @@ use mathlib.Core.List.{List, [], _∷_, _++_}
 use mathlib.Core.Path.{_≡_}
 use lib.ListN.{length, drop}
 use Rattle.rules.specs.Memory.{Memory, Lent}
-use Rattle.retire.specs.Answers.{Retires}
-use Rattle.retire.specs.Lending.{sizes}
+use Rattle.demands.specs.Answers.{Retires}
+use Rattle.demands.specs.Lending.{sizes}
 use Rattle.answers.specs.declared.Outcome.{Outcome}
 
 unfoldable pub counted : Outcome → List ℕ

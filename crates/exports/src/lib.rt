@@ -1,9 +1,9 @@
 // The call for programs in Rust and C: numbers and slices only. A slice crosses as its address and its length.
 use answers::Outcome;
+use demands::COLUMN_SIZE;
+use demands::MOMENTS_SIZE;
 use results::DIFFS_SIZE;
 use results::NUMBERS_SIZE;
-use retire::COLUMN_SIZE;
-use retire::MOMENTS_SIZE;
 use retire::retire;
 ghost use mathlib.Core.Path.{_≡_};
 ghost use Prim.Native.Nat.{_≤_};
@@ -12,7 +12,7 @@ ghost use mathlib.Core.List.{_++_};
 ghost use Rattle.rules.specs.Memory.{numbersSize};
 ghost use Rattle.grid.specs.Records.{mostRecords};
 ghost use Rattle.checks.specs.Checks.{columns};
-ghost use Rattle.retire.specs.Lending.{memory, lent};
+ghost use Rattle.demands.specs.Lending.{memory, lent};
 ghost use Rattle.exports.specs.Exported.{counted, Exported};
 
 // How many numbers and how many diffs result memory has.

@@ -1,4 +1,1 @@
-pub mod Answers
-pub mod Exchanges
-pub mod Lending
-pub mod Parts
+pub mod Checked

@@ -1,16 +1,16 @@
 // The public call.
-use crate::COLUMN_SIZE;
-use crate::MOMENTS_SIZE;
-use crate::idle::stay_idle;
-use crate::work::work;
 use answers::Outcome;
 use checks::status_before_work;
+use demands::COLUMN_SIZE;
+use demands::MOMENTS_SIZE;
+use idle::stay_idle;
 use results::DIFFS_SIZE;
 use results::NUMBERS_SIZE;
+use working::work;
 ghost use Rattle.checks.specs.Checks.{columns};
-ghost use Rattle.retire.specs.Answers.{Retires};
-ghost use Rattle.retire.specs.Lending.{sizes, memory, lent};
-ghost use Rattle.retire.specs.Parts.{Checked};
+ghost use Rattle.demands.specs.Answers.{Retires};
+ghost use Rattle.demands.specs.Lending.{sizes, memory, lent};
+ghost use Rattle.retire.specs.Checked.{Checked};
 
 // The status before any work.
 fn check(
@@ -96,8 +96,8 @@ fn check(
 }
 
 // One call: "old input run, new input run, old output run, pending list of (key, time), lower, upper, held, mode (1 count, 2 distinct), window width 1
-// to 64, result and work memory" are lent. What it says and leaves is the rules' answer, at every status; proofs/Demands.antt has what follows of
-// the answer that a caller reads in memory: the three demands, of every call that says what is said here.
+// to 64, result and work memory" are lent. What it says and leaves is the rules' answer, at every status; crate demands has what follows of the
+// answer that a caller reads in memory: the three demands, of every call that says what is said here.
 pub fn retire(
     mode: u64,
     width: u64,

@@ -17,8 +17,9 @@ use Rattle.backends.specs.Crossing.{part}
 use Rattle.seeking.specs.declared.Progress.{Progress}
 use Rattle.turns.specs.Runs.{Runs}
 use Rattle.turns.specs.Worked.{LentWork, Takes, Turned}
-use Rattle.windows.specs.Looped.{Loops, Ended}
-use Rattle.windows.proofs.Looping.{Looping, fresh, looping-start, looping-takes, looping-less, looping-more, looping-end}
+use Rattle.answers.specs.declared.Course.{Course}
+use Rattle.looping.specs.Looped.{courseOf, Loops, Ended}
+use Rattle.looping.proofs.Looping.{Looping, fresh, looping-start, looping-takes, looping-less, looping-more, looping-end}
 
 -- ---- memory
 pub record SameLong (moments₀ uv₀ ut₀ : List ℕ) (ud₀ : List ℤ) (iv₀ : List ℕ) (id₀ : List ℤ) (ov₀ : List ℕ) (od₀ cd₀ : List ℤ) (wv₀ seeds₀ output₀ tracked₀ nk₀ nt₀ fk₀ fv₀ ft₀ : List ℕ) (fd₀ : List ℤ) (res₀ : List ℕ)
@@ -125,5 +126,5 @@ module _ {R : Runs} {mode width : ℕ} {keys : List ℕ} {n : ℕ} {moments₀ u
         let m = lent-still (g .same) (g .lent) in
         looping-more (g .looping) (g .loops) goes′ e-is′ T (m .long-nk) (m .long-nt) (m .lent)
 
-  pub going-end : (not (w .over) && ltb p n) ≡ false → Ended R mode width keys nk nt fk fv ft fd (record { pended = w .pended; fixes = w .fixes; crossings = w .crossings; large = w .large; over = w .over })
-  going-end t = looping-end (g .looping) (g .loops) (sym to-length ∙ t)
+  pub going-end : {c : Course} → (not (w .over) && ltb p n) ≡ false → c ≡ courseOf w → Ended R mode width keys nk nt fk fv ft fd c
+  going-end t e = rw e (looping-end (g .looping) (g .loops) (sym to-length ∙ t))

@@ -1,4 +1,1 @@
-pub mod Counts
-pub mod Asking
-pub mod Looping
 pub mod Going

@@ -1,35 +1,13 @@
 // The windows of a call, from the first to the last.
 use answers::Course;
+use looping::course;
+use looping::goes_on;
+use looping::window_end;
 use seeking::Progress;
 use turns::work_window;
-ghost use Prim.Native.Nat.{_+_, _≤_, min};
-ghost use mathlib.Core.Path.{_≡_};
-ghost use mathlib.Core.Bool.{_&&_, not};
-ghost use lib.Dec.{ltb};
 ghost use Rattle.turns.specs.Runs.{runs};
 ghost use Rattle.turns.specs.Worked.{LentWork};
-ghost use Rattle.windows.specs.Looped.{Loops, Ended};
-
-// Where the window of the keys from p on ends.
-fn window_end(p: usize, width: usize, n: usize) -> usize
-    requires { ⌜ p ≤ n ⌝ }
-    ensures { λ r. ⌜ r ≡ min (p + width) n ⌝ }
-{
-    if width < n - p {
-        return p + width;
-    }
-    n
-}
-
-// Whether there is a key from p on, and no limit was passed yet.
-fn goes_on(p: usize, n: usize, over: bool) -> bool
-    ensures { λ r. ⌜ r ≡ (not over && ltb p n) ⌝ }
-{
-    if over {
-        return false;
-    }
-    p < n
-}
+ghost use Rattle.looping.specs.Looped.{Loops, Ended};
 
 // Works all windows of the changed keys. Once a limit is passed, the others are left out.
 pub fn work_windows(
@@ -129,11 +107,5 @@ pub fn work_windows(
         );
         p = e;
     }
-    Course {
-        pended: w.pended,
-        fixes: w.fixes,
-        crossings: w.crossings,
-        large: w.large,
-        over: w.over,
-    }
+    course(w)
 }

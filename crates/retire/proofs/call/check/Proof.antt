@@ -1,5 +1,5 @@
 use Rattle.checks.specs.Checks.{sizesOf}
-use Rattle.retire.proofs.Lending.{checked}
+use Rattle.retire.proofs.Checking.{checked}
 use borrow.Author.Needs.{needs}
 use Rattle.retire.proofs.call.check.Statement.{statement}
 use Rattle.retire.proofs.call.check.Tie as tie

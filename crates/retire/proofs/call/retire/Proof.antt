@@ -1,5 +1,4 @@
-use Rattle.retire.proofs.Idling.{idle-asks, idle-retires}
-use Rattle.retire.proofs.Working.{begins}
+use Rattle.retire.proofs.Checking.{begins, idle-asks, idle-retires}
 use borrow.Author.Needs.{needs}
 use Rattle.retire.proofs.call.retire.Statement.{statement}
 use Rattle.retire.proofs.call.retire.Tie as tie

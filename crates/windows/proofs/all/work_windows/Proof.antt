@@ -1,6 +1,6 @@
 use Rattle.windows.proofs.Going.{SameLong, same-more, Going, going-start, going-within, going-fits, going-range, going-less, going-asks, going-more, going-end}
 use Rattle.turns.specs.Runs.{runs}
-use Rattle.windows.proofs.Looping.{Looping}
+use Rattle.looping.proofs.Looping.{Looping}
 use borrow.Author.Needs.{needs}
 use lib.ListN.{length}
 use mathlib.Core.Path.{refl, sym, _∙_}
@@ -55,68 +55,71 @@ again-looping c = going-more (c .before .before .before .before .before .before 
 loop-again : tie.Need-loop-again Inv-loop μ-loop
 loop-again c = record { loops = c .before .before .before .before .before .before .before .before .before .before .before .before .before .before .before .before .before .before .before .before .before .before .before .before .before .before .before .before .before .before .before .before .before .before .before .before .before .before .before .before .before .before .before .before .before .before .before .before .before .before .before .before .before .before .before .before .before .before .before .before .loop .inv .loops; all-keys = c .before .before .before .before .before .before .before .before .before .before .before .before .before .before .before .before .before .before .before .before .before .before .before .before .before .before .before .before .before .before .before .before .before .before .before .before .before .before .before .before .before .before .before .before .before .before .before .before .before .before .before .before .before .before .before .before .before .before .before .before .loop .inv .all-keys; lent = c .before .before .before .before .before .before .before .before .before .before .before .before .before .before .before .before .before .before .before .before .before .before .before .before .before .before .before .before .before .before .before .before .before .before .before .before .before .before .before .before .before .before .before .before .before .before .before .before .before .before .before .before .before .before .before .before .before .before .before .before .loop .inv .lent; same = again-same c; looping = again-looping c }
 
+course-requires : tie.Need-course-requires Inv-loop μ-loop
+course-requires c κs = search needs
+
 same-length : tie.Need-same-length Inv-loop μ-loop
-same-length c = c .before .before .loop .inv .same .of-moments
+same-length c = c .before .before .before .loop .inv .same .of-moments
 
 same-length-2 : tie.Need-same-length-2 Inv-loop μ-loop
-same-length-2 c = c .before .before .loop .inv .same .of-uv
+same-length-2 c = c .before .before .before .loop .inv .same .of-uv
 
 same-length-3 : tie.Need-same-length-3 Inv-loop μ-loop
-same-length-3 c = c .before .before .loop .inv .same .of-ut
+same-length-3 c = c .before .before .before .loop .inv .same .of-ut
 
 same-length-4 : tie.Need-same-length-4 Inv-loop μ-loop
-same-length-4 c = c .before .before .loop .inv .same .of-ud
+same-length-4 c = c .before .before .before .loop .inv .same .of-ud
 
 same-length-5 : tie.Need-same-length-5 Inv-loop μ-loop
-same-length-5 c = c .before .before .loop .inv .same .of-iv
+same-length-5 c = c .before .before .before .loop .inv .same .of-iv
 
 same-length-6 : tie.Need-same-length-6 Inv-loop μ-loop
-same-length-6 c = c .before .before .loop .inv .same .of-id
+same-length-6 c = c .before .before .before .loop .inv .same .of-id
 
 same-length-7 : tie.Need-same-length-7 Inv-loop μ-loop
-same-length-7 c = c .before .before .loop .inv .same .of-ov
+same-length-7 c = c .before .before .before .loop .inv .same .of-ov
 
 same-length-8 : tie.Need-same-length-8 Inv-loop μ-loop
-same-length-8 c = c .before .before .loop .inv .same .of-od
+same-length-8 c = c .before .before .before .loop .inv .same .of-od
 
 same-length-9 : tie.Need-same-length-9 Inv-loop μ-loop
-same-length-9 c = c .before .before .loop .inv .same .of-cd
+same-length-9 c = c .before .before .before .loop .inv .same .of-cd
 
 same-length-10 : tie.Need-same-length-10 Inv-loop μ-loop
-same-length-10 c = c .before .before .loop .inv .same .of-wv
+same-length-10 c = c .before .before .before .loop .inv .same .of-wv
 
 same-length-11 : tie.Need-same-length-11 Inv-loop μ-loop
-same-length-11 c = c .before .before .loop .inv .same .of-seeds
+same-length-11 c = c .before .before .before .loop .inv .same .of-seeds
 
 same-length-12 : tie.Need-same-length-12 Inv-loop μ-loop
-same-length-12 c = c .before .before .loop .inv .same .of-output
+same-length-12 c = c .before .before .before .loop .inv .same .of-output
 
 same-length-13 : tie.Need-same-length-13 Inv-loop μ-loop
-same-length-13 c = c .before .before .loop .inv .same .of-tracked
+same-length-13 c = c .before .before .before .loop .inv .same .of-tracked
 
 same-length-14 : tie.Need-same-length-14 Inv-loop μ-loop
-same-length-14 c = c .before .before .loop .inv .same .of-nk
+same-length-14 c = c .before .before .before .loop .inv .same .of-nk
 
 same-length-15 : tie.Need-same-length-15 Inv-loop μ-loop
-same-length-15 c = c .before .before .loop .inv .same .of-nt
+same-length-15 c = c .before .before .before .loop .inv .same .of-nt
 
 same-length-16 : tie.Need-same-length-16 Inv-loop μ-loop
-same-length-16 c = c .before .before .loop .inv .same .of-fk
+same-length-16 c = c .before .before .before .loop .inv .same .of-fk
 
 same-length-17 : tie.Need-same-length-17 Inv-loop μ-loop
-same-length-17 c = c .before .before .loop .inv .same .of-fv
+same-length-17 c = c .before .before .before .loop .inv .same .of-fv
 
 same-length-18 : tie.Need-same-length-18 Inv-loop μ-loop
-same-length-18 c = c .before .before .loop .inv .same .of-ft
+same-length-18 c = c .before .before .before .loop .inv .same .of-ft
 
 same-length-19 : tie.Need-same-length-19 Inv-loop μ-loop
-same-length-19 c = c .before .before .loop .inv .same .of-fd
+same-length-19 c = c .before .before .before .loop .inv .same .of-fd
 
 same-length-20 : tie.Need-same-length-20 Inv-loop μ-loop
-same-length-20 c = c .before .before .loop .inv .same .of-res
+same-length-20 c = c .before .before .before .loop .inv .same .of-res
 
 returns : tie.Need-returns Inv-loop μ-loop
-returns c = going-end (c .before .before .loop .inv) (sym (c .before .goes-on .ensures) ∙ c .if1 .left)
+returns c = going-end (c .before .before .before .loop .inv) (sym (c .before .before .goes-on .ensures) ∙ c .before .if1 .left) (c .course .ensures)
 
 pub work-windows-spec : {M : Type 1} → statement M
 work-windows-spec =
@@ -134,6 +137,7 @@ work-windows-spec =
     work-window-requires
     loop-less
     loop-again
+    course-requires
     same-length
     same-length-2
     same-length-3

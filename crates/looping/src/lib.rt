@@ -1,0 +1,42 @@
+// The loop over the windows of a call: where it stands, and what it comes to.
+use answers::Course;
+use seeking::Progress;
+ghost use Prim.Native.Nat.{_+_, _≤_, min};
+ghost use mathlib.Core.Path.{_≡_};
+ghost use mathlib.Core.Bool.{_&&_, not};
+ghost use lib.Dec.{ltb};
+ghost use Rattle.looping.specs.Looped.{courseOf};
+
+// Where the window of the keys from p on ends.
+pub fn window_end(p: usize, width: usize, n: usize) -> usize
+    requires { ⌜ p ≤ n ⌝ }
+    ensures { λ r. ⌜ r ≡ min (p + width) n ⌝ }
+{
+    if width < n - p {
+        return p + width;
+    }
+    n
+}
+
+// Whether there is a key from p on, and no limit was passed yet.
+pub fn goes_on(p: usize, n: usize, over: bool) -> bool
+    ensures { λ r. ⌜ r ≡ (not over && ltb p n) ⌝ }
+{
+    if over {
+        return false;
+    }
+    p < n
+}
+
+// What is told of the windows once they are done.
+pub fn course(w: Progress) -> Course
+    ensures { λ r. ⌜ r ≡ courseOf w ⌝ }
+{
+    Course {
+        pended: w.pended,
+        fixes: w.fixes,
+        crossings: w.crossings,
+        large: w.large,
+        over: w.over,
+    }
+}
