@@ -1,7 +1,8 @@
 -- The answer of a call that works, once its input is formed: what each of its parts asks, and that it is the rules'.
 --
 -- keys-asked: what the changed keys ask. keys-are: what they are. lent-work, loops: what the windows ask
--- concludes: what the answer asks once they are done. works-writes, tells-same: result memory may be scratch before it is written. answers-call: it is that of any request whose runs these are
+-- concludes: what the answer asks once they are done. works-writes: such a call writes. tells-same: so result memory may be scratch before it does
+-- answers-call: the answer is that of any request whose runs these are
 use Prim.Native.Nat.{ℕ, suc, _+_, _-_, _≤_}
 use native.Mathlib.Nat.{sub-zero}
 use native.Mathlib.Omega.{arith}
@@ -39,7 +40,7 @@ puts-length : (ts us : List ℕ) → length (puts ts us) ≤ length ts + length 
 puts-length [] us = omega arith
 puts-length (t ∷ ts) us = omega (arith, put-length t (puts ts us), puts-length ts us)
 
--- a call that works writes
+-- ---- a call that works writes
 pub works-writes : (q : Request) → Works q → (leb 11 (call q .status) && leb (call q .status) 17) ≡ false
 unfolding call worked refused
 works-writes q W =

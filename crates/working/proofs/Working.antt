@@ -1,7 +1,8 @@
 -- A call that works: what the checks say of its runs, and what it leaves.
 --
 -- begins-room: how long its memory is. runsOf l c: its runs as its windows read them, c being its input
--- forms, forms-room: what forming the input asks. form-lends: so its places find room too. asked, few, answering: the runs are the request's, and are as the rest of the work asks
+-- forms, forms-room: what forming the input asks. form-lends: so its places find room too
+-- asked, few, answering: the runs are the request's, and are as the rest of the work asks
 -- work-retires: what the call says and leaves
 -- formed-part, kept, reach, same-six, same-two: lengths
 use Prim.Native.Nat.{ℕ, _+_, _-_, _≤_}
@@ -191,10 +192,11 @@ module _ {l : Lent} (B : Begins l) where
         wide-diffs = g;
       }
 
--- ---- what the call leaves
+-- ---- the places of the records
 pub form-lends : {n : ℕ} {both all : Columns} {work : List ℕ} (places : List ℕ) → length places ≡ 8192 → Forms n both work all → Lending n both places work all
 form-lends places e f = record { for-both = f .for-both; for-places = omega (arith, f .few); for-work = f .for-work; for-all = f .for-all }
 
+-- ---- what the call leaves
 pub work-retires :
     {l : Lent} {R : Runs} {r : Outcome} {res : List ℕ} {m′ : Memory} {ns ms : List ℕ}
     → Begins l → Asked (requestOf l) (l .mode) (l .width) R (puts (R .newKeys ++ R .pendingKeys) [])
