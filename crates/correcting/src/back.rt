@@ -30,7 +30,8 @@ pub fn lay_outputs(
     lay_row(from, to, ov, ot, od, ue, uv, ut, ud);
 }
 
-fn copy_ends(src: &[usize], dst: &mut [usize])
+// Copies ends of segments.
+pub fn copy_ends(src: &[usize], dst: &mut [usize])
     requires { ⌜ length (now dst) ≡ length (now src) ⌝ }
     ensures { λ _. ⌜ now (dst .exit) ≡ now (src .entry) ⌝ }
 {
@@ -42,7 +43,7 @@ fn copy_ends(src: &[usize], dst: &mut [usize])
 }
 
 // Copies merged segments and their ends to the front of the output's columns.
-fn copy_back(
+pub fn copy_back(
     ye: &[usize],
     yv: &[u64],
     yt: &[u64],

@@ -6,3 +6,4 @@ pub use moment::present;
 pub use slots::present_row;
 pub use slots::present_window;
 pub use slots::round_moments;
+pub use slots::starts;

@@ -43,7 +43,7 @@ pub fn present_window(
 }
 
 // Where the segments begin that end at `ends`.
-fn starts(ends: &[usize], from: &mut [usize])
+pub fn starts(ends: &[usize], from: &mut [usize])
     requires { ⌜ length (now ends) ≤ length (now from) ⌝ }
     ensures { λ _. ⌜ Column (now (from .entry)) 0 (startsOf 0 (now (ends .entry))) (now (from .exit)) (length (now (ends .entry))) ⌝ }
 {

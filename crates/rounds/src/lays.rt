@@ -4,7 +4,7 @@ ghost use Rattle.moments.specs.Window.{partsOf};
 ghost use Rattle.rounds.specs.Merges.{Rows, RowsInRow, Lays, LaysRow};
 
 // Appends at `at` the edits of three columns.
-fn append_edits(
+pub fn append_edits(
     values: &[u64],
     times: &[u64],
     diffs: &[i64],

@@ -4,6 +4,7 @@ mod lays;
 mod merges;
 
 pub use fixes::append_rows;
+pub use lays::append_edits;
 pub use lays::lay_row;
 pub use merges::merge_corrections;
 pub use merges::merge_row;

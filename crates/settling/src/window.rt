@@ -15,7 +15,7 @@ ghost use Rattle.correcting.specs.Settle.{Settles};
 ghost use Rattle.settling.specs.Rounds.{Rounds, Rounded, spanFrom, Steps};
 
 // How long the longest list of moments is.
-fn longest(ends: &[usize]) -> usize
+pub fn longest(ends: &[usize]) -> usize
     requires { ⌜ Steps 0 (now ends) ⌝ }
     ensures { λ r. ⌜ r ≡ spanFrom 0 0 (now (ends .entry)) ⌝ }
 {
@@ -37,7 +37,7 @@ fn longest(ends: &[usize]) -> usize
 }
 
 // Whether there is a round j, and the corrections are not too large yet.
-fn goes_on(j: usize, most: usize, large: bool) -> bool
+pub fn goes_on(j: usize, most: usize, large: bool) -> bool
     ensures { λ r. ⌜ r ≡ (not large && ltb j most) ⌝ }
 {
     if large {
@@ -47,7 +47,7 @@ fn goes_on(j: usize, most: usize, large: bool) -> bool
 }
 
 // Round j: the slots are shown at their j-th moments, cross, and are settled.
-fn round(
+pub fn round(
     mode: u64,
     j: usize,
     keys: &[u64],
