@@ -28,7 +28,7 @@ use Rattle.settling.specs.Rounds.{Rounds, Rounded, spanFrom}
 use Rattle.correcting.specs.declared.Settled.{Settled}
 use Rattle.correcting.proofs.Crossed.{not-large}
 use Rattle.settling.proofs.SlotLaws.{rows-none, crossings-none, spent-slots, rows-past, crossings-past}
-use Rattle.settling.proofs.Longest.{span-steps, span-all, span-most}
+use Rattle.settling.proofs.Spanning.{span-steps, span-all, span-most}
 
 -- ---- too large
 abbrev out : Row → Bool

@@ -1,5 +1,5 @@
 pub mod SlotLaws
 pub mod Presented
-pub mod Longest
+pub mod Spanning
 pub mod Rounded
 pub mod Going

@@ -1,6 +1,6 @@
 use Prim.Native.Nat.{_-_}
 use lib.ListN.{length}
-use Rattle.settling.proofs.Longest.{Spanning, spanning-start, span-bound, span-more, span-other, spanning-end}
+use Rattle.settling.proofs.Spanning.{Spanning, spanning-start, span-bound, span-more, span-other, spanning-end}
 use borrow.Author.Needs.{needs}
 use Rattle.settling.proofs.window.longest.Statement.{statement}
 use Rattle.settling.proofs.window.longest.Tie as tie

@@ -1,7 +1,7 @@
 use Rattle.settling.proofs.Going.{Going, going-start, going-asks, going-fits, going-less, going-more, going-kept, going-end}
 use Prim.Native.Nat.{_-_}
 use mathlib.Core.Path.{sym, _∙_}
-use Rattle.settling.proofs.Longest.{span-steps}
+use Rattle.settling.proofs.Spanning.{span-steps}
 use borrow.Author.Needs.{needs}
 use Rattle.settling.proofs.window.settle_window.Statement.{statement}
 use Rattle.settling.proofs.window.settle_window.Tie as tie
