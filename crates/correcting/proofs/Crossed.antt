@@ -71,7 +71,7 @@ rows-blank (k ∷ ks) [] b = refl
 rows-blank (k ∷ ks) (t ∷ ts) nil = refl
 rows-blank (k ∷ ks) (t ∷ ts) (cons p b) = λ z. fixRows k t (p z) ++ rows-blank ks ts b z
 
-merged-blank : (ts : List ℕ) {os : List (List Edit)} {cs : List Sums} → length os ≡ length ts → length cs ≡ length ts → All Orderly os → Blank cs → mergedAt ts os cs ≡ os
+merged-blank : {n : ℕ} (ts : List ℕ) {os : List (List Edit)} {cs : List Sums} → length os ≡ length ts → length cs ≡ length ts → All (Orderly n) os → Blank cs → mergedAt ts os cs ≡ os
 unfolding mergedAt
 merged-blank [] e q nil b = refl
 merged-blank [] e q (cons {xs = os} h a) b = no-length (length os) e

@@ -2,36 +2,37 @@
 --
 -- entries-of, diffs-entries: of values and diffs. rows-over: of four columns
 -- rows-diffs, large-rows: the diffs of a round's records, and whether they are too large
--- merged-orderly: corrections in range keep the output in order
+-- merged-orderly: with corrections in range the output is in order, for as many records more as there are corrections
 -- corrects-append, corrects-merge: what the two parts ask. corrects-settles, corrects-turns: what they give
 -- over-settles: what is promised of corrections that are too large
-use Prim.Native.Nat.{ℕ, _+_, _-_, _<_, _≤_, _^_}
+use Prim.Native.Nat.{ℕ, _+_, _-_, _*_, _<_, _≤_, _^_}
 use native.Mathlib.Omega.{arith}
 use mathlib.Core.Bool.{Bool, true, false, not, _||_}
 use mathlib.Core.Path.{_≡_, refl, sym, _∙_, ap, subst}
 use mathlib.Core.List.{List, [], _∷_, _++_, map, map-append}
 use lib.Dec.{ltb}
 use lib.IntN.{ℤ, natAbs}
-use lib.ListN.{length, take, length-map}
+use lib.ListN.{length, take, length-map, length-append}
 use lib.Seq.{take-all, length-take-le}
 use borrow.Author.Tests.{ltb-false, leb-true, not-false}
 use Rattle.grid.specs.Lists.{any, every}
 use Rattle.grid.specs.Records.{Row, inRange, rows}
 use Rattle.grid.proofs.Tests.{by-test, clash, or-false-l, or-false-r}
-use Rattle.grid.proofs.Lists.{All, nil, cons, head, tail, all-append, all-imp, all-map, map-all, all-sort, every-all}
+use Rattle.grid.proofs.Lists.{All, nil, cons, head, tail, all-imp, map-all, every-all}
+use Rattle.grid.proofs.Sizes.{mass, mass-most}
 use Rattle.grid.proofs.Operations.{no-length}
 use Rattle.rules.specs.Histories.{Edit}
 use Rattle.rules.specs.Backends.{Sums}
-use Rattle.rules.specs.Retire.{dated}
 use Rattle.backends.specs.Columns.{entries, valuesOf, diffsOf}
 use Rattle.backends.specs.Crossing.{segments, whole}
 use Rattle.backends.proofs.Columns.{less, length-entries}
 use Rattle.moments.specs.Present.{edits}
 use Rattle.moments.specs.Window.{Orderly}
-use Rattle.rounds.specs.Merges.{byValue, merged, mergedAt, endOf}
+use Rattle.rounds.specs.Merges.{merged, mergedAt, endOf}
 use Rattle.rounds.specs.Fixes.{fixRows, rowsAt, RowsListed, AppendsAll}
 use Rattle.rounds.specs.Slots.{rowsTooLarge}
-use Rattle.rounds.proofs.Mixing.{merged-sorted}
+use Rattle.rounds.proofs.Mixing.{merged-sorted, merged-mass}
+use Rattle.moments.proofs.Orderly.{cut-more}
 use Rattle.moments.proofs.Taking.{length-segments}
 use Rattle.correcting.specs.Back.{Holds, MergesBack}
 use Rattle.correcting.specs.Settle.{Grown, Settles, Turned, Turns, Corrects}
@@ -98,19 +99,24 @@ large-rows n R cd e =
 abbrev Small : ℕ × ℤ → Type 0
 Small y = natAbs (y .1) ≤ 2 ^ 31
 
-merged-one : (o : List Edit) (t : ℕ) (c : Sums) → Orderly o → All Small c → Orderly (merged o t c)
-unfolding merged dated
-merged-one o t c h a = record {
+merged-one : {n m : ℕ} (o : List Edit) (t : ℕ) (c : Sums) → n + length c ≤ m → Orderly n o → All Small c → Orderly m (merged o t c)
+merged-one {n} {m} o t c k h a = record {
   ascends = merged-sorted o t c;
-  small = all-sort byValue (all-append (h .small) (all-map (λ (p : ℕ × ℤ). ((t, p .0), p .1)) a));
+  light = (
+      let x : mass natAbs (merged o t c) ≡ mass natAbs o + mass natAbs c = merged-mass o t c in
+      let y : mass natAbs o ≤ n * 2 ^ 31 = h .light in
+      let z : mass natAbs c ≤ length c * 2 ^ 31 = mass-most natAbs (2 ^ 31) a in
+      omega arith);
 }
 
-merged-orderly : (ts : List ℕ) (os : List (List Edit)) (cs : List Sums) → All Orderly os → All (All Small) cs → All Orderly (mergedAt ts os cs)
+merged-orderly : {n m : ℕ} (ts : List ℕ) (os : List (List Edit)) (cs : List Sums) → n + length (whole cs) ≤ m → All (Orderly n) os → All (All Small) cs → All (Orderly m) (mergedAt ts os cs)
 unfolding mergedAt
-merged-orderly [] os cs h a = nil
-merged-orderly (t ∷ ts) [] cs h a = nil
-merged-orderly (t ∷ ts) (o ∷ os) [] h a = nil
-merged-orderly (t ∷ ts) (o ∷ os) (c ∷ cs) h a = cons (merged-one o t c (head h) (head a)) (merged-orderly ts os cs (tail h) (tail a))
+merged-orderly [] os cs k h a = nil
+merged-orderly (t ∷ ts) [] cs k h a = nil
+merged-orderly (t ∷ ts) (o ∷ os) [] k h a = nil
+merged-orderly (t ∷ ts) (o ∷ os) (c ∷ cs) k h a =
+    let l : length (c ++ whole cs) ≡ length c + length (whole cs) = length-append c (whole cs) in
+    cons (merged-one o t c (omega arith) (head h) (head a)) (merged-orderly ts os cs (omega arith) (tail h) (tail a))
 
 in-range : (d : ℤ) → inRange d ≡ true → natAbs d ≤ 2 ^ 31
 unfolding inRange
@@ -192,7 +198,7 @@ module _ {keys ts ce cv : List ℕ} {cd : List ℤ} {ue uv ut : List ℕ} {ud : 
             same-yt = a .long-t ∙ sym y;
             same-yd = a .long-d ∙ sym y;
             short = omega arith;
-            cut-u = a .stands .cut;
+            cut-u = cut-more (omega arith) (a .stands .cut);
             cut-c = a .cut-c;
             room-e = omega arith;
             room = omega arith;
@@ -235,7 +241,7 @@ module _ {keys ts ce cv : List ℕ} {cd : List ℤ} {ue uv ut : List ℕ} {ud : 
           record {
             outputs-are = holds-segments h;
             stands = record {
-              cut = holds-cut h (merged-orderly ts os cs (all-segments (a .stands .cut)) small);
+              cut = holds-cut h (merged-orderly ts os cs (omega arith) (all-segments (a .stands .cut)) small);
               end = subst (λ (i : ℕ). i ≤ 4096 + r .fixes) (sym z) (omega arith);
               fits = omega arith;
             };

@@ -22,7 +22,7 @@ use Rattle.correcting.specs.Back.{Holds, LaysOut, LaidOut}
 use Rattle.correcting.proofs.InRow.{edits-over, holds-segments, holds-cut, holds-end}
 
 module _ {A : Type 0} {P : List A → Type 0} {l : List A} where
-  apart-all : {k : ℕ} {fs es : List ℕ} → Apart P l k fs es → All P (partsOf fs es l)
+  pub apart-all : {k : ℕ} {fs es : List ℕ} → Apart P l k fs es → All P (partsOf fs es l)
   unfolding partsOf
   apart-all done = nil
   apart-all (next a b c p r) = cons p (apart-all r)

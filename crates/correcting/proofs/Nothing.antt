@@ -12,6 +12,6 @@ use Rattle.moments.specs.Window.{Orderly}
 use Rattle.rounds.specs.Merges.{byValue, merged}
 use Rattle.rounds.proofs.Mixing.{sorted-of}
 
-pub merged-none : (t : ℕ) (o : List Edit) → Orderly o → merged o t [] ≡ o
+pub merged-none : {n : ℕ} (t : ℕ) (o : List Edit) → Orderly n o → merged o t [] ≡ o
 unfolding merged dated
 merged-none t o h = ap (sort byValue) (append-nil o) ∙ sort-sorted (sorted-of o (h .ascends))

@@ -9,6 +9,7 @@ use mathlib.Core.List.{List, _++_}
 use mathlib.Core.Path.{_≡_}
 use lib.IntN.{ℤ}
 use lib.ListN.{length, take, drop}
+use Rattle.grid.specs.Records.{mostRecords}
 use Rattle.rules.specs.Histories.{Edit}
 use Rattle.backends.specs.Crossing.{segments, ends, whole, Cut}
 use Rattle.moments.specs.Present.{edits}
@@ -41,5 +42,5 @@ pub record LaysOut (fs es ov ot : List ℕ) (od : List ℤ) (ue uv ut : List ℕ
 
 pub record LaidOut (ss : List (List Edit)) (most : ℕ) (ue uv ut : List ℕ) (ud : List ℤ) : Type 0 where
   pub outputs-are : segments 0 ue (edits uv ut ud) ≡ ss
-  pub cut : Cut Orderly (edits uv ut ud) 0 ue
+  pub cut : Cut (Orderly mostRecords) (edits uv ut ud) 0 ue
   pub end : endOf 0 ue ≤ most

@@ -39,7 +39,7 @@ pub record Settles (new : List Row) (crossed : ℕ) (p r : Settled) (fk₀ fv₀
 
 -- ---- the output of the slots
 pub record Stands (ue uv ut : List ℕ) (ud : List ℤ) (p : Settled) : Type 0 where
-  pub cut : Cut Orderly (edits uv ut ud) 0 ue
+  pub cut : Cut (Orderly (mostRecords + p .fixes)) (edits uv ut ud) 0 ue
   pub end : endOf 0 ue ≤ mostRecords + p .fixes
   pub fits : p .fixes ≤ mostRecords
 

@@ -21,6 +21,7 @@ use Rattle.rules.specs.Discover.{mostMoments}
 use Rattle.backends.specs.Crossing.{segments}
 use Rattle.moments.specs.Present.{edits}
 use Rattle.moments.specs.Window.{partsOf}
+use Rattle.moments.proofs.Orderly.{cut-more}
 use Rattle.rounds.specs.Slots.{slotsOf, windowRows, windowCrossings}
 use Rattle.correcting.specs.Back.{LaysOut, LaidOut}
 use Rattle.correcting.specs.Settle.{Settles}
@@ -116,7 +117,7 @@ module _ {keys moments mends fs es tv tt : List ℕ} {td : List ℤ} {ofs oes ov
               long-cd = w .long-cd;
             };
             lent = x .lent;
-            stands = rw ends-are (record { cut = y .cut; end = omega (arith, y .end); fits = x .fits over large });
+            stands = rw ends-are (record { cut = cut-more (omega arith) (y .cut); end = omega (arith, y .end); fits = x .fits over large });
             counts = omega arith;
             going = large;
           }

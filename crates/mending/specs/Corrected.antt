@@ -41,7 +41,7 @@ pub record Corrects (keys moments mends fs es tv tt : List ℕ) (td : List ℤ) 
   pub same-t : length ot ≡ length ov
   pub same-d : length od ≡ length ov
   pub out-few : length ov ≤ mostRecords
-  pub out-apart : Apart Orderly (edits ov ot od) 0 ofs oes
+  pub out-apart : Apart (Orderly mostRecords) (edits ov ot od) 0 ofs oes
   pub lent : LentFixes fk fv ft fd
   pub fits : p .over ≡ false → p .large ≡ false → p .fixes ≤ mostRecords
   pub counts : p .over ≡ false → p .large ≡ false → p .crossings < 2 ^ 60

@@ -1,6 +1,7 @@
 pub mod Summing
 pub mod Shown
 pub mod Passing
+pub mod Orderly
 pub mod Seen
 pub mod Showing
 pub mod Taking

@@ -4,7 +4,7 @@
 -- apart-next, parts-next: what lies apart, its first part and the others. apart-past: it begins at or past any smaller place
 -- Showing: the slots before b are shown, and what is seen of them ends at k. showing-start, show-live, show-none, showing-end: the loop keeps that
 -- in-to, in-live, in-moments, in-ends, bounds, shows: what a turn asks
-use Prim.Native.Nat.{ℕ, zero, suc, _+_, _-_, _<_, _≤_, _^_}
+use Prim.Native.Nat.{ℕ, zero, suc, _+_, _-_, _*_, _<_, _≤_, _^_}
 use native.Mathlib.Omega.{arith}
 use mathlib.Core.Bool.{cond}
 use mathlib.Core.Path.{_≡_, refl, sym, _∙_, ap, subst}
@@ -18,6 +18,7 @@ use Rattle.grid.specs.Times.{below}
 use Rattle.grid.proofs.Lists.{All, all-imp, all-map, keep-length}
 use Rattle.grid.proofs.Loops.{drop-more}
 use Rattle.grid.proofs.Sort.{Sorted}
+use Rattle.grid.proofs.Sizes.{mass, mass-each}
 use Rattle.grid.proofs.Operations.{no-length}
 use Rattle.rules.specs.Histories.{Edit, timeOf, valueOf}
 use Rattle.rules.specs.Backends.{Sums}
@@ -123,24 +124,25 @@ pub parts-next : {A : Type 0} (fs es : List ℕ) (l : List A) (b : ℕ) → b < 
 unfolding partsOf
 parts-next fs es l b h g = λ z. partsOf (drop-more fs b 0 h z) (drop-more es b 0 g z) l
 
+-- diffs that are together no larger than those of 8,192 records are modest
+modest-edits : (es : List Edit) → mass natAbs es ≤ 8192 * 2 ^ 31 → All (λ (y : Edit). modest (y .1)) es
+modest-edits es l = all-imp (λ y g. omega arith) (mass-each natAbs es)
+
 -- an orderly part of three columns is laid
-pub laid-part : (f e : ℕ) (vs ts : List ℕ) (ds : List ℤ) → length ts ≡ length vs → length ds ≡ length vs → length vs ≤ 8192 → f ≤ e → e ≤ length vs → Orderly (part f e (edits vs ts ds))
+pub laid-part : (f e : ℕ) (vs ts : List ℕ) (ds : List ℤ) → length ts ≡ length vs → length ds ≡ length vs → length vs ≤ 8192 → f ≤ e → e ≤ length vs → Orderly 8192 (part f e (edits vs ts ds))
     → Laid (part f e vs) (part f e ts) (part f e ds)
 laid-part f e vs ts ds a b s h k o =
     let p : length (part f e vs) ≡ e - f = part-length f e vs h k in
     let q : length (part f e ts) ≡ e - f = part-length f e ts h (omega arith) in
     let r : length (part f e ds) ≡ e - f = part-length f e ds h (omega arith) in
-    let u : Orderly (edits (part f e vs) (part f e ts) (part f e ds)) = subst Orderly (sym (part-edits f e vs ts ds)) o in
+    let u : Orderly 8192 (edits (part f e vs) (part f e ts) (part f e ds)) = subst (Orderly 8192) (sym (part-edits f e vs ts ds)) o in
     record {
       same-t = q ∙ sym p;
       same-d = r ∙ sym p;
       short = omega arith;
       ascends = subst (Sorted leb) (edits-values (part f e vs) (part f e ts) (part f e ds) (q ∙ sym p) (r ∙ sym p)) (u .ascends);
-      small = subst (All modest) (edits-diffs (part f e vs) (part f e ts) (part f e ds) (q ∙ sym p) (r ∙ sym p)) (all-map {P = modest} (λ (y : Edit). y .1) (all-imp within (u .small)));
+      small = subst (All modest) (edits-diffs (part f e vs) (part f e ts) (part f e ds) (q ∙ sym p) (r ∙ sym p)) (all-map {P = modest} (λ (y : Edit). y .1) (modest-edits (edits (part f e vs) (part f e ts) (part f e ds)) (u .light)));
     }
-  where
-    within : (y : Edit) → natAbs (y .1) ≤ 2 ^ 31 → modest (y .1)
-    within y g = omega arith
 
 -- ---- the loop
 module _ (live moments fs es vs ts : List ℕ) (ds : List ℤ) where
@@ -151,7 +153,7 @@ module _ (live moments fs es vs ts : List ℕ) (ds : List ℤ) where
 pub record Showing (live moments fs es vs ts : List ℕ) (ds : List ℤ) (se₀ sv₀ : List ℕ) (sd₀ : List ℤ) (se sv : List ℕ) (sd : List ℤ) (b k : ℕ) : Type 0 where
   pub asks : Window live moments fs es vs ts ds se₀ sv₀ sd₀
   pub bn : b ≤ length fs
-  pub apart : Apart Orderly (edits vs ts ds) k (drop b fs) (drop b es)
+  pub apart : Apart (Orderly 8192) (edits vs ts ds) k (drop b fs) (drop b es)
   pub row : Filling sv₀ sd₀ 0 (whole (left live moments fs es vs ts ds 0)) sv sd k (whole (left live moments fs es vs ts ds b))
   pub row-ends : Writing se₀ 0 (ends 0 (left live moments fs es vs ts ds 0)) se b (ends k (left live moments fs es vs ts ds b))
 
@@ -190,7 +192,7 @@ module _ {live moments fs es vs ts : List ℕ} {ds : List ℤ} {se₀ sv₀ : Li
       let l : length se ≡ length se₀ = m .row-ends .same in
       omega arith
 
-  here : (k ≤ f) × ((f ≤ e) × ((e ≤ length (edits vs ts ds)) × (Orderly (part f e (edits vs ts ds)) × Apart Orderly (edits vs ts ds) e (drop (b + 1) fs) (drop (b + 1) es))))
+  here : (k ≤ f) × ((f ≤ e) × ((e ≤ length (edits vs ts ds)) × (Orderly 8192 (part f e (edits vs ts ds)) × Apart (Orderly 8192) (edits vs ts ds) e (drop (b + 1) fs) (drop (b + 1) es))))
   here = apart-next fs es b h in-to (m .apart)
 
   pub bounds : (f ≤ e) × ((e ≤ length vs) × ((e ≤ length ts) × (e ≤ length ds)))

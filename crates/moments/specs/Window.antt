@@ -2,20 +2,20 @@
 --
 -- partsOf fs ts l: the parts of l from each of fs to each of ts
 -- Apart P l k fs ts: these parts begin at or past k, do not overlap and stay within l, and P holds of each
--- Orderly: edits that ascend by value, with diffs of records
+-- Orderly n: edits that ascend by value, whose diffs are together no larger than those of n records
 -- seenAt live moments parts: what is seen of each slot's part at its moment, nothing where the slot is not live (1)
 -- momentsAt j ms: the j-th moment of each list of moments, 0 where there is none. livesAt j ms: 1 where there is one, else 0
 -- startsOf f es: where the segments begin that end at es, the first of them at f
 -- Window: what showing a window asks, RowWindow: the same of segments in a row. Taking: what taking a round's moments asks. Taken: what it leaves
-use Prim.Native.Nat.{ℕ, _≤_, _^_}
+use Prim.Native.Nat.{ℕ, _*_, _≤_, _^_}
 use mathlib.Core.Bool.{cond}
 use mathlib.Core.List.{List, [], _∷_, map}
 use mathlib.Core.Path.{_≡_}
 use lib.Dec.{leb, ltb, eqb}
 use lib.IntN.{ℤ, natAbs}
 use lib.ListN.{length, getD}
-use Rattle.grid.proofs.Lists.{All}
 use Rattle.grid.proofs.Sort.{Sorted}
+use Rattle.grid.proofs.Sizes.{mass}
 use Rattle.rules.specs.Histories.{Edit, valueOf}
 use Rattle.rules.specs.Backends.{Sums}
 use Rattle.rules.specs.Discover.{mostMoments}
@@ -34,9 +34,9 @@ module _ {A : Type 0} where
     done : {k : ℕ} → Apart P l k [] []
     next : {k f t : ℕ} {fs ts : List ℕ} → k ≤ f → f ≤ t → t ≤ length l → P (part f t l) → Apart P l t fs ts → Apart P l k (f ∷ fs) (t ∷ ts)
 
-pub record Orderly (es : List Edit) : Type 0 where
+pub record Orderly (n : ℕ) (es : List Edit) : Type 0 where
   pub ascends : Sorted leb (map valueOf es)
-  pub small : All (λ (e : Edit). natAbs (e .1) ≤ 2 ^ 31) es
+  pub light : mass natAbs es ≤ n * 2 ^ 31
 
 unfoldable pub seenAt : List ℕ → List ℕ → List (List Edit) → List Sums
 seenAt [] ts ss = []
@@ -52,7 +52,7 @@ pub record Window (live moments fs es : List ℕ) (vs ts : List ℕ) (ds : List 
   pub same-d : length ds ≡ length vs
   pub same-s : length sd ≡ length sv
   pub short : length vs ≤ 8192
-  pub apart : Apart Orderly (edits vs ts ds) 0 fs es
+  pub apart : Apart (Orderly 8192) (edits vs ts ds) 0 fs es
   pub room-e : length fs ≤ length se
   pub room : length vs ≤ length sv
 
@@ -64,7 +64,7 @@ pub record RowWindow (live moments es : List ℕ) (vs ts : List ℕ) (ds : List 
   pub same-d : length ds ≡ length vs
   pub same-s : length sd ≡ length sv
   pub short : length vs ≤ 8192
-  pub cut : Cut Orderly (edits vs ts ds) 0 es
+  pub cut : Cut (Orderly 8192) (edits vs ts ds) 0 es
   pub room-e : length es ≤ length se
   pub room : length vs ≤ length sv
 

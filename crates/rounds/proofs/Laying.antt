@@ -8,6 +8,7 @@ use mathlib.Core.Path.{_≡_, sym, _∙_, ap, subst}
 use mathlib.Core.List.{List, [], _∷_}
 use lib.IntN.{ℤ, pos}
 use lib.ListN.{length, drop, getD, set, drop-of-length-le, length-map}
+use Rattle.grid.specs.Records.{mostRecords}
 use Rattle.grid.proofs.Loops.{drop-more}
 use Rattle.rules.specs.Histories.{Edit, timeOf, valueOf}
 use Rattle.backends.specs.Columns.{Column}
@@ -78,7 +79,7 @@ module _ (fs es vs ts : List ℕ) (ds : List ℤ) where
 pub record LayingAll (fs es vs ts : List ℕ) (ds : List ℤ) (ye₀ yv₀ yt₀ : List ℕ) (yd₀ : List ℤ) (ye yv yt : List ℕ) (yd : List ℤ) (b k : ℕ) : Type 0 where
   pub asks : LaysRow fs es vs ts ds ye₀ yv₀ yt₀ yd₀
   pub bn : b ≤ length fs
-  pub apart : Apart Orderly (edits vs ts ds) k (drop b fs) (drop b es)
+  pub apart : Apart (Orderly mostRecords) (edits vs ts ds) k (drop b fs) (drop b es)
   pub row : Listing yv₀ yt₀ yd₀ 0 (whole (left fs es vs ts ds 0)) yv yt yd k (whole (left fs es vs ts ds b))
   pub row-ends : Writing ye₀ 0 (ends 0 (left fs es vs ts ds 0)) ye b (ends k (left fs es vs ts ds b))
 
@@ -108,7 +109,7 @@ module _ {fs es vs ts : List ℕ} {ds : List ℤ} {ye₀ yv₀ yt₀ : List ℕ}
   pub here-fits : (b * 8 < 2 ^ 64) × (b + 1 < 2 ^ 64)
   here-fits = let q : length fs ≤ 64 = m .asks .few in (omega arith, omega arith)
 
-  here : (k ≤ f) × ((f ≤ e) × ((e ≤ length (edits vs ts ds)) × (Orderly (part f e (edits vs ts ds)) × Apart Orderly (edits vs ts ds) e (drop (b + 1) fs) (drop (b + 1) es))))
+  here : (k ≤ f) × ((f ≤ e) × ((e ≤ length (edits vs ts ds)) × (Orderly mostRecords (part f e (edits vs ts ds)) × Apart (Orderly mostRecords) (edits vs ts ds) e (drop (b + 1) fs) (drop (b + 1) es))))
   here = apart-next fs es b h here-to (m .apart)
 
   pub bounds : (f ≤ e) × ((e ≤ length vs) × ((e ≤ length ts) × (e ≤ length ds)))

@@ -54,7 +54,7 @@ pub record Merging (ts ue uv ut : List ℕ) (ud : List ℤ) (ce cv : List ℕ) (
   pub bn : b ≤ length ue
   pub even : k ≡ f + g
   pub room : endOf f (drop b ue) + endOf g (drop b ce) ≤ length yv₀
-  pub cut-u : Cut Orderly (edits uv ut ud) f (drop b ue)
+  pub cut-u : Cut (Orderly 8192) (edits uv ut ud) f (drop b ue)
   pub cut-c : Cut (Canon ltb) (entries cv cd) g (drop b ce)
   pub row : Listing yv₀ yt₀ yd₀ 0 (whole (left ts ue uv ut ud ce cv cd 0 0 0)) yv yt yd k (whole (left ts ue uv ut ud ce cv cd b f g))
   pub row-ends : Writing ye₀ 0 (ends 0 (left ts ue uv ut ud ce cv cd 0 0 0)) ye b (ends k (left ts ue uv ut ud ce cv cd b f g))
@@ -98,7 +98,7 @@ module _ {ts ue uv ut : List ℕ} {ud : List ℤ} {ce cv : List ℕ} {cd : List 
       let l : length ye ≡ length ye₀ = m .row-ends .same in
       omega arith
 
-  here-u : (f ≤ e) × ((e ≤ length (edits uv ut ud)) × (Orderly (part f e (edits uv ut ud)) × Cut Orderly (edits uv ut ud) e (drop (b + 1) ue)))
+  here-u : (f ≤ e) × ((e ≤ length (edits uv ut ud)) × (Orderly 8192 (part f e (edits uv ut ud)) × Cut (Orderly 8192) (edits uv ut ud) e (drop (b + 1) ue)))
   here-u = cut-next ue b h (m .cut-u)
 
   here-c : (g ≤ i) × ((i ≤ length (entries cv cd)) × (Canon ltb (part g i (entries cv cd)) × Cut (Canon ltb) (entries cv cd) i (drop (b + 1) ce)))

@@ -2,22 +2,24 @@
 --
 -- Mixing: the edits before i of the segment and before j of the corrections are merged, and stand before k
 -- mixing-start, mix-left, mix-right, mixing-end: the merge keeps that. here-*, in-*: the places that a turn reads and writes
--- merged-sorted: what is merged ascends by value. merged-seen: at each time, what is seen of it is what is seen of the segment and the corrections
+-- merged-sorted: what is merged ascends by value. merged-mass: its diffs are together as large as those of the segment and of the corrections.
+-- merged-seen: at each time, what is seen of it is what is seen of the segment and the corrections
 use Prim.Native.Nat.{ℕ, zero, suc, _+_, _-_, _<_, _≤_}
 use native.Mathlib.Omega.{arith}
 use mathlib.Core.Bool.{Bool, true, false, cond}
 use mathlib.Core.Path.{_≡_, refl, sym, _∙_, ap, subst}
 use mathlib.Core.List.{List, [], _∷_, _++_, map}
 use lib.Dec.{ltb, leb}
-use lib.IntN.{ℤ, pos}
+use lib.IntN.{ℤ, pos, natAbs}
 use lib.ListN.{length, drop, getD, set, length-map}
 use borrow.Author.Tests.{ltb-true, ltb-false}
-use Rattle.grid.specs.Lists.{keep, sort}
+use Rattle.grid.specs.Lists.{keep, insert, sort}
 use Rattle.grid.specs.Times.{below}
 use Rattle.grid.proofs.Tests.{by-test, clash}
 use Rattle.grid.proofs.Lists.{all-map, map-all}
 use Rattle.grid.proofs.Sort.{Ranking, ranking-leb, Sorted, none, more, sorted-sort, merge, merge-sorted, leftFirst, merge-left, merge-right, merge-none, first-left, first-none}
 use Rattle.grid.proofs.Sums.{sum, sum-sort, sum-map, sum-keep}
+use Rattle.grid.proofs.Sizes.{mass, mass-append, mass-map}
 use Rattle.grid.proofs.Consolidate.{strict-ltb, share, consolidate-ext}
 use Rattle.grid.proofs.Operations.{no-length, map-drop}
 use Rattle.rules.specs.Histories.{Edit, timeOf, valueOf}
@@ -239,3 +241,19 @@ merged-seen q es t c =
 
     shares : (p : ℕ → Bool) (fs : List Edit) → sum (share p) (shown q fs) ≡ sum (one p) fs
     shares p fs = sum-map (share p) (λ (e : Edit). (valueOf e, e .1)) (keep (λ e. below (timeOf e) q) fs) ∙ sum-keep (λ (e : Edit). share p (valueOf e, e .1)) (λ e. below (timeOf e) q) fs
+
+-- ---- mass
+module _ (le : Edit → Edit → Bool) where
+  mass-insert : (e : Edit) (es : List Edit) → mass natAbs (insert le e es) ≡ natAbs (e .1) + mass natAbs es
+  mass-insert e [] = refl
+  mass-insert e (y ∷ es) =
+      by-test (le e y) (λ q. rw q)
+      (λ q. rw q (let h : mass natAbs (insert le e es) ≡ natAbs (e .1) + mass natAbs es = mass-insert e es in omega arith))
+
+  mass-sort : (es : List Edit) → mass natAbs (sort le es) ≡ mass natAbs es
+  mass-sort [] = refl
+  mass-sort (e ∷ es) = mass-insert e (sort le es) ∙ ap (λ n. natAbs (e .1) + n) (mass-sort es)
+
+pub merged-mass : (es : List Edit) (t : ℕ) (c : Sums) → mass natAbs (merged es t c) ≡ mass natAbs es + mass natAbs c
+unfolding merged dated
+merged-mass es t c = mass-sort byValue (es ++ dated t c) ∙ mass-append natAbs es (dated t c) ∙ ap (λ n. mass natAbs es + n) (mass-map natAbs (λ (p : ℕ × ℤ). ((t, p .0), p .1)) (λ y. refl) c)

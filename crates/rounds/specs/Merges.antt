@@ -15,6 +15,7 @@ use lib.Dec.{leb, ltb}
 use lib.IntN.{ℤ}
 use lib.ListN.{length}
 use Rattle.grid.specs.Lists.{sort}
+use Rattle.grid.specs.Records.{mostRecords}
 use Rattle.grid.proofs.Sort.{Sorted}
 use Rattle.grid.proofs.Consolidate.{Canon}
 use Rattle.rules.specs.Histories.{Edit, timeOf, valueOf}
@@ -67,7 +68,7 @@ pub record MergesRow (ts ue uv ut : List ℕ) (ud : List ℤ) (ce cv : List ℕ)
   pub same-yt : length yt ≡ length yv
   pub same-yd : length yd ≡ length yv
   pub short : length uv ≤ 8192
-  pub cut-u : Cut Orderly (edits uv ut ud) 0 ue
+  pub cut-u : Cut (Orderly 8192) (edits uv ut ud) 0 ue
   pub cut-c : Cut (Canon ltb) (entries cv cd) 0 ce
   pub room-e : length ue ≤ length ye
   pub room : endOf 0 ue + endOf 0 ce ≤ length yv
@@ -87,6 +88,6 @@ pub record Lays (vs ts : List ℕ) (ds : List ℤ) (yv yt : List ℕ) (yd : List
 pub record LaysRow (fs es vs ts : List ℕ) (ds : List ℤ) (ye yv yt : List ℕ) (yd : List ℤ) : Type 0 where
   pub few : length fs ≤ 64
   pub same-e : length es ≡ length fs
-  pub apart : Apart Orderly (edits vs ts ds) 0 fs es
+  pub apart : Apart (Orderly mostRecords) (edits vs ts ds) 0 fs es
   pub room-e : length fs ≤ length ye
   pub lays : Lays vs ts ds yv yt yd 0

@@ -1,7 +1,7 @@
 -- The slots of a window at their moments of a round.
 --
 -- shows-within, shows-window, shows-row: what showing input and output asks. presents: what it leaves
--- seen-long, seen-canons, seen-modests: of what is seen of all slots. apart-all: what holds of parts that lie apart
+-- seen-long, seen-canons, seen-modests: of what is seen of all slots
 use Prim.Native.Nat.{ℕ, suc, _-_, _≤_}
 use native.Mathlib.Omega.{arith}
 use mathlib.Core.Bool.{cond}
@@ -9,7 +9,7 @@ use mathlib.Core.Path.{_≡_, refl, sym, _∙_, ap, subst}
 use mathlib.Core.List.{List, [], _∷_}
 use lib.Dec.{ltb, eqb}
 use lib.IntN.{ℤ}
-use lib.ListN.{length, take, getD, length-map, length-take, length-drop}
+use lib.ListN.{length, take, getD, length-map}
 use Rattle.grid.proofs.Tests.{by-test}
 use Rattle.grid.proofs.Lists.{All, nil, cons, head, tail, all-append, map-all}
 use Rattle.grid.proofs.Consolidate.{Canon, none}
@@ -18,12 +18,10 @@ use Rattle.rules.specs.Histories.{Edit}
 use Rattle.rules.specs.Backends.{Sums}
 use Rattle.rules.specs.Retire.{seen}
 use Rattle.diffs.specs.Diffs.{modest}
-use Rattle.backends.specs.Crossing.{part, segments, whole, Cut, LaidInRow}
-use Rattle.backends.specs.Crossing as crossing
+use Rattle.backends.specs.Crossing.{segments, whole, LaidInRow}
 use Rattle.backends.proofs.Columns.{less}
 use Rattle.moments.specs.Present.{edits}
-use Rattle.moments.specs.Window.{partsOf, Apart, Orderly, seenAt, momentsAt, livesAt, Window, RowWindow, Taken}
-use Rattle.moments.specs.Window as window
+use Rattle.moments.specs.Window.{partsOf, Orderly, seenAt, momentsAt, livesAt, Window, RowWindow, Taken}
 use Rattle.moments.proofs.Seen.{seen-canon, seen-modest}
 use Rattle.moments.proofs.Taking.{front-part, length-segments}
 use Rattle.settling.specs.Slotted.{Shows, Presents}
@@ -48,34 +46,16 @@ seen-canons (l ∷ ls) [] es = nil
 seen-canons (l ∷ ls) (t ∷ ts) [] = nil
 seen-canons (l ∷ ls) (t ∷ ts) (e ∷ es) = cons (canon-one l t e) (seen-canons ls ts es)
 
--- a part that what is seen of it is modest
-pub record Brief (es : List Edit) : Type 0 where
-  pub orderly : Orderly es
-  pub short : length es ≤ 8192
+modest-one : (l t : ℕ) (e : List Edit) → Orderly 8192 e → All (λ (y : ℕ × ℤ). modest (y .1)) (cond (eqb l 1) (seen t e) [])
+modest-one l t e o = by-test (eqb l 1) (λ q. rw q (map-all (λ (y : ℕ × ℤ). y .1) (seen t e) (seen-modest t e (o .light)))) (λ q. rw q nil)
 
-modest-one : (l t : ℕ) (e : List Edit) → Brief e → All (λ (y : ℕ × ℤ). modest (y .1)) (cond (eqb l 1) (seen t e) [])
-modest-one l t e b = by-test (eqb l 1) (λ q. rw q (map-all (λ (y : ℕ × ℤ). y .1) (seen t e) (seen-modest t (b .orderly .small) (b .short)))) (λ q. rw q nil)
-
-pub seen-modests : (ls ts : List ℕ) (es : List (List Edit)) → All Brief es → All (λ (y : ℕ × ℤ). modest (y .1)) (whole (seenAt ls ts es))
+pub seen-modests : (ls ts : List ℕ) (es : List (List Edit)) → All (Orderly 8192) es → All (λ (y : ℕ × ℤ). modest (y .1)) (whole (seenAt ls ts es))
 unfolding seenAt
 seen-modests [] ts es a = nil
 seen-modests (l ∷ ls) [] es a = nil
 seen-modests (l ∷ ls) (t ∷ ts) [] a = nil
 seen-modests (l ∷ ls) (t ∷ ts) (e ∷ es) a =
     all-append (modest-one l t e (head a)) (seen-modests ls ts es (tail a))
-
-brief-part : (f t : ℕ) (l : List Edit) → length l ≤ 8192 → Orderly (part f t l) → Brief (part f t l)
-brief-part f t l h o = record { orderly = o; short = (let n : length (part f t l) ≤ length l = simp (length-take, length-drop) (omega arith) in omega arith) }
-
-pub apart-brief : {l : List Edit} {k : ℕ} {fs es : List ℕ} → length l ≤ 8192 → Apart Orderly l k fs es → All Brief (partsOf fs es l)
-unfolding partsOf
-apart-brief h window.done = nil
-apart-brief {l} h (window.next {k} {f} {t} a b c p r) = cons (brief-part f t l h p) (apart-brief h r)
-
-pub cut-brief : {l : List Edit} {f : ℕ} {es : List ℕ} → length l ≤ 8192 → Cut Orderly l f es → All Brief (segments f es l)
-unfolding segments
-cut-brief h crossing.done = nil
-cut-brief {l} h (crossing.next {f} {e} a b p c) = cons (brief-part f e l h p) (cut-brief h c)
 
 -- ---- one round
 module _ {moments mends fs es tv tt : List ℕ} {td : List ℤ} {ue uv ut : List ℕ} {ud : List ℤ} {ts₀ ie iv : List ℕ} {id : List ℤ} {oe ov : List ℕ} {od : List ℤ}

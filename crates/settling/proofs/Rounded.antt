@@ -16,13 +16,13 @@ use Rattle.rules.specs.Histories.{Edit}
 use Rattle.rules.specs.Backends.{Sums}
 use Rattle.diffs.specs.Diffs.{modest}
 use Rattle.backends.specs.Columns.{entries}
-use Rattle.backends.specs.Crossing.{segments, whole, corrections}
+use Rattle.backends.specs.Crossing.{segments, whole, corrections, Cut}
 use Rattle.moments.specs.Present.{edits}
-use Rattle.moments.specs.Window.{partsOf, seenAt, momentsAt, livesAt}
+use Rattle.moments.specs.Window.{partsOf, Orderly, seenAt, momentsAt, livesAt}
 use Rattle.rounds.specs.Merges.{mergedAt}
 use Rattle.rounds.specs.Fixes.{rowsAt}
 use Rattle.rounds.specs.Slots.{Slot, slotsOf, rowsNow, crossesNow}
-use Rattle.moments.proofs.Showing.{edits-length}
+use Rattle.moments.proofs.Orderly.{cut-more}
 use Rattle.moments.proofs.Taking.{length-segments}
 use Rattle.correcting.specs.Settle.{Settles, Turns, Crosses}
 use Rattle.settling.specs.Slotted.{Shows, Presents}
@@ -30,9 +30,9 @@ use Rattle.settling.specs.Rounds.{Rounds, Rounded}
 use Rattle.correcting.specs.declared.Settled.{Settled}
 use Rattle.settling.specs.declared.Shown.{Shown}
 use Rattle.correcting.proofs.InRow.{all-segments, column-within}
-use Rattle.correcting.proofs.Laid.{length-parts}
+use Rattle.correcting.proofs.Laid.{length-parts, apart-all}
 use Rattle.correcting.proofs.Held.{held-count, held-within, held-diffs, held-segments, held-cut, held-long}
-use Rattle.settling.proofs.Presented.{seen-long, seen-canons, seen-modests, apart-brief, cut-brief}
+use Rattle.settling.proofs.Presented.{seen-long, seen-canons, seen-modests}
 use Rattle.settling.proofs.SlotLaws.{rows-slots, past-slots, crosses-slots}
 
 module _ {keys moments mends fs es tv tt : List ℕ} {td : List ℤ} {ue uv ut : List ℕ} {ud : List ℤ} {iv₀ : List ℕ} {id₀ : List ℤ} {ov₀ : List ℕ} {od₀ : List ℤ} {cv : List ℕ} {cd : List ℤ} {fk fv ft : List ℕ} {fd : List ℤ} {p : Settled}
@@ -49,6 +49,10 @@ module _ {keys moments mends fs es tv tt : List ℕ} {td : List ℤ} {ue uv ut :
   abbrev us : List (List Edit)
   us = segments 0 ue (edits uv ut ud)
 
+  -- the output is in order for all that was, and all that is corrected
+  out-cut : Cut (Orderly 8192) (edits uv ut ud) 0 ue
+  out-cut = let h : p .fixes ≤ 4096 = x .stands .fits in cut-more (omega arith) (x .stands .cut)
+
   mends-long : length mends ≡ n
   mends-long = x .slotted .same-m
 
@@ -58,7 +62,7 @@ module _ {keys moments mends fs es tv tt : List ℕ} {td : List ℤ} {ue uv ut :
       (record {
         slotted = x .slotted;
         out = x .out;
-        cut = x .stands .cut;
+        cut = out-cut;
         long-ts = a;
         long-ie = b;
         long-oe = c;
@@ -118,17 +122,11 @@ module _ {keys moments mends fs es tv tt : List ℕ} {td : List ℤ} {ue uv ut :
         let f : length (take (n - 0) ts) ≤ length ts = rw length-take (omega arith) in
         (omega arith, (omega arith, omega arith))
 
-    brief-i : All (λ (z : ℕ × ℤ). modest (z .1)) (whole SI)
-    brief-i =
-        let a : length (edits tv tt td) ≤ length tv = edits-length tv tt td in
-        let b : length tv ≤ 8192 = x .slotted .short in
-        seen-modests L T is (apart-brief (omega arith) (x .slotted .apart))
+    modest-i : All (λ (z : ℕ × ℤ). modest (z .1)) (whole SI)
+    modest-i = seen-modests L T is (apart-all (x .slotted .apart))
 
-    brief-o : All (λ (z : ℕ × ℤ). modest (z .1)) (whole SO)
-    brief-o =
-        let a : length (edits uv ut ud) ≤ length uv = edits-length uv ut ud in
-        let b : length uv ≡ 8192 = x .out .long-v in
-        seen-modests L T us (cut-brief (omega arith) (x .stands .cut))
+    modest-o : All (λ (z : ℕ × ℤ). modest (z .1)) (whole SO)
+    modest-o = seen-modests L T us (all-segments out-cut)
 
     pub rounds-crosses : length iv ≡ length iv₀ → length id ≡ length id₀ → length ov ≡ length ov₀ → length od ≡ length od₀
         → Crosses (s .input) (s .output) keys (take (n - 0) ts) (take (n - 0) ie) (take (n - 0) oe) ue uv ut ud iv id ov od cv cd fk fv ft fd p
@@ -147,8 +145,8 @@ module _ {keys moments mends fs es tv tt : List ℕ} {td : List ℤ} {ue uv ut :
           in-o = omega arith;
           cut-i = held-cut (y .input-is) n-i refl (seen-canons L T is);
           cut-o = held-cut (y .output-is) n-o refl (seen-canons L T us);
-          small-i = subst (All modest) (sym (held-diffs (y .input-is) n-i refl)) (all-map {P = modest} (λ (z : ℕ × ℤ). z .1) brief-i);
-          small-o = subst (All modest) (sym (held-diffs (y .output-is) n-o refl)) (all-map {P = modest} (λ (z : ℕ × ℤ). z .1) brief-o);
+          small-i = subst (All modest) (sym (held-diffs (y .input-is) n-i refl)) (all-map {P = modest} (λ (z : ℕ × ℤ). z .1) modest-i);
+          small-o = subst (All modest) (sym (held-diffs (y .output-is) n-o refl)) (all-map {P = modest} (λ (z : ℕ × ℤ). z .1) modest-o);
           sums = record { long-iv = iv-long; long-ov = ov-long; long-id = b ∙ x .sums .long-id; long-od = d ∙ x .sums .long-od; long-cv = x .sums .long-cv; long-cd = x .sums .long-cd };
           lent = x .lent;
           stands = x .stands;

@@ -72,14 +72,14 @@ module _ (mode j k : ℕ) (i o : List Edit) (m : List ℕ) where
       (λ e. rw (e, drop-cons m j 0 (ltb-true j (length m) e)) (or-false (crosses (seen (getD m j 0) i) (seen (getD m j 0) o)) ∙ crosses-are (seen (getD m j 0) i) (seen (getD m j 0) o)))
       (λ e. rw (e, drop-of-length-le m {i = j} (ltb-false j (length m) e)))
 
-  output-slot : Orderly o → outputPast o (roundNow mode s) ≡ merged o (getD m j 0) fix
+  output-slot : {n : ℕ} → Orderly n o → outputPast o (roundNow mode s) ≡ merged o (getD m j 0) fix
   unfolding outputPast roundNow roundAt
   output-slot h =
       by-test (ltb j (length m))
       (λ e. rw (e, drop-cons m j 0 (ltb-true j (length m) e)) (ap (merged o (getD m j 0)) (fixes-are mode (seen (getD m j 0) i) (seen (getD m j 0) o))))
       (λ e. rw (e, drop-of-length-le m {i = j} (ltb-false j (length m) e), correction-nothing mode) (sym (merged-none (getD m j 0) o h)))
 
-  past-slot : Orderly o → slotPast mode s ≡ slot k i (merged o (getD m j 0) fix) (drop (j + 1) m)
+  past-slot : {n : ℕ} → Orderly n o → slotPast mode s ≡ slot k i (merged o (getD m j 0) fix) (drop (j + 1) m)
   unfolding slotPast
   past-slot h = λ z. slot k i (output-slot h z) (drop-drop 1 j m z)
 
@@ -104,7 +104,7 @@ module _ (mode j : ℕ) where
       let q = rows-slots ks is os ms in
       λ z. p z ++ q z
 
-  pub past-slots : (ks : List ℕ) (is os : List (List Edit)) (ms : List (List ℕ)) → All Orderly os
+  pub past-slots : {n : ℕ} (ks : List ℕ) (is os : List (List Edit)) (ms : List (List ℕ)) → All (Orderly n) os
       → map (slotPast mode) (slotsAt ks is os ms) ≡ slotsOf ks is (mergedAt (momentsAt j ms) os (fixesAt is os ms)) (map (drop (j + 1)) ms)
   unfolding slotsOf mergedAt corrections seenAt
   past-slots [] is os ms h = refl

@@ -23,13 +23,13 @@ pub record Slotted (n : ℕ) (moments mends fs es tv tt : List ℕ) (td : List �
   pub same-t : length tt ≡ length tv
   pub same-d : length td ≡ length tv
   pub short : length tv ≤ 8192
-  pub apart : Apart Orderly (edits tv tt td) 0 fs es
+  pub apart : Apart (Orderly 8192) (edits tv tt td) 0 fs es
   pub cut-m : Cut (λ m. length m ≤ mostMoments) moments 0 mends
 
 pub record Shows (n : ℕ) (moments mends fs es tv tt : List ℕ) (td : List ℤ) (ue uv ut : List ℕ) (ud : List ℤ) (ts ie iv : List ℕ) (id : List ℤ) (oe ov : List ℕ) (od : List ℤ) : Type 0 where
   pub slotted : Slotted n moments mends fs es tv tt td
   pub out : LentOut n ue uv ut ud
-  pub cut : Cut Orderly (edits uv ut ud) 0 ue
+  pub cut : Cut (Orderly 8192) (edits uv ut ud) 0 ue
   pub long-ts : length ts ≡ 64
   pub long-ie : length ie ≡ 64
   pub long-oe : length oe ≡ 64

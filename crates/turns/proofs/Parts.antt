@@ -1,17 +1,19 @@
 -- The parts of a run's columns that a window's searches find hold the edits of its keys; they lie apart, and each is in order.
 --
--- parts-are: the part of each key holds its edits. parts-apart: the parts do not overlap, and each ascends by value, with diffs of records
-use Prim.Native.Nat.{ℕ}
+-- parts-are: the part of each key holds its edits. parts-apart: the parts do not overlap, and each ascends by value, with diffs that are
+-- together no larger than those of the run's records
+use Prim.Native.Nat.{ℕ, _*_, _≤_, _^_}
 use native.Mathlib.Omega.{arith}
 use mathlib.Core.Bool.{true}
 use mathlib.Core.List.{List, [], _∷_, map, map-map}
 use mathlib.Core.Path.{_≡_, refl, sym, _∙_, ap, subst}
 use lib.Dec.{eqb, ltb}
-use lib.IntN.{ℤ}
+use lib.IntN.{ℤ, natAbs}
 use lib.ListN.{length, length-map}
 use Rattle.grid.specs.Lists.{keep, ascending}
 use Rattle.grid.specs.Records.{Row, rows}
-use Rattle.grid.proofs.Lists.{All, head, all-keep, all-map, map-all}
+use Rattle.grid.proofs.Lists.{All, head, all-keep, all-map, map-all, keep-length}
+use Rattle.grid.proofs.Sizes.{mass, mass-most}
 use Rattle.grid.proofs.Ascending.{ascending-rest}
 use Rattle.rules.specs.Histories.{Edit, valueOf}
 use Rattle.rules.specs.Call.{editsOf}
@@ -28,6 +30,7 @@ use Rattle.finding.proofs.Keyed.{reaches-past}
 use Rattle.moments.specs.Present.{edits}
 use Rattle.moments.specs.Window.{partsOf, Apart, done, next, Orderly}
 use Rattle.moments.proofs.Showing.{apart-past}
+use Rattle.moments.proofs.Orderly.{apart-more}
 
 -- ---- two columns, and the parts that they tell
 abbrev fromsOf : List Span → List ℕ
@@ -74,8 +77,11 @@ module _ {ks vs ts : List ℕ} {ds : List ℤ} (l : Level ks vs ts ds) where
   in-rows : edits vs ts ds ≡ map editOf (rows ks vs ts ds)
   in-rows = edits-rows ks vs ts ds (l .values-long) (l .times-long) (l .diffs-long)
 
+  rows-long : length (rows ks vs ts ds) ≡ length ks
+  rows-long = sym (length-map (rows ks vs ts ds) keyOf) ∙ ap length (rows-keys l)
+
   run-long : length (edits vs ts ds) ≡ length ks
-  run-long = ap length in-rows ∙ length-map (rows ks vs ts ds) editOf ∙ sym (length-map (rows ks vs ts ds) keyOf) ∙ ap length (rows-keys l)
+  run-long = ap length in-rows ∙ length-map (rows ks vs ts ds) editOf ∙ rows-long
 
   key-edits : {start k : ℕ} → Reaches ks start k → part (spanAt ks start k .from) (spanAt ks start k .to) (edits vs ts ds) ≡ editsOf k (rows ks vs ts ds)
   unfolding editsOf
@@ -100,28 +106,28 @@ module _ {ks vs ts : List ℕ} {ds : List ℤ} (l : Level ks vs ts ds) where
 
   -- ---- parts in order
   module _ (ranked : Ranked (rows ks vs ts ds)) (modest : All Modest ds) where
-    key-orderly : (k : ℕ) → Orderly (editsOf k (rows ks vs ts ds))
+    key-orderly : (k : ℕ) → Orderly (length ks) (editsOf k (rows ks vs ts ds))
     unfolding editsOf valueOf
     key-orderly k =
         let rs : List Row = keep (λ x. eqb k (x .key)) (rows ks vs ts ds) in
-        record {
-          ascends = rw (map-map valueOf editOf rs) (ranked-values k ranked);
-          small = all-map editOf (all-keep (λ x. eqb k (x .key)) (map-all {P = Modest} diffOf (rows ks vs ts ds) (rw (rows-diffs l) modest)));
-        }
+        let m : mass natAbs (map editOf rs) ≤ length (map editOf rs) * 2 ^ 31 = mass-most natAbs (2 ^ 31) (all-map editOf (all-keep (λ x. eqb k (x .key)) (map-all {P = Modest} diffOf (rows ks vs ts ds) (rw (rows-diffs l) modest)))) in
+        let n : length (map editOf rs) ≡ length rs = length-map rs editOf in
+        let few : length rs ≤ length (rows ks vs ts ds) = keep-length (λ x. eqb k (x .key)) (rows ks vs ts ds) in
+        record { ascends = rw (map-map valueOf editOf rs) (ranked-values k ranked); light = omega (arith, rows-long) }
 
     apart-from : {start : ℕ} (keys : List ℕ) → ascending ltb keys ≡ true → All (Reaches ks start) keys
-        → Apart Orderly (edits vs ts ds) start (fromsOf (spansFrom ks start keys)) (tosOf (spansFrom ks start keys))
+        → Apart (Orderly (length ks)) (edits vs ts ds) start (fromsOf (spansFrom ks start keys)) (tosOf (spansFrom ks start keys))
     unfolding spansFrom
     apart-from [] a r = done
     apart-from {start} (k ∷ keys) a r =
         let s : Span = spanAt ks start k in
         let w = spans-within (head r) (spans-at ks start k) in
-        next {k = start} {f = s .from} (omega (arith, spans-at ks start k .from-is)) (w .ordered) (rw run-long (w .inside)) (subst Orderly (sym (key-edits (head r))) (key-orderly k))
+        next {k = start} {f = s .from} (omega (arith, spans-at ks start k .from-is)) (w .ordered) (rw run-long (w .inside)) (subst (Orderly (length ks)) (sym (key-edits (head r))) (key-orderly k))
         (apart-from keys (ascending-rest ltb k keys a) (reaches-rest a r))
 
-    pub parts-apart : {start : ℕ} {fs es : List ℕ} {keys : List ℕ} → ascending ltb keys ≡ true → All (Reaches ks start) keys → spansIn fs es ≡ spansFrom ks start keys → length fs ≡ length es
-        → Apart Orderly (edits vs ts ds) 0 fs es
-    parts-apart {fs = fs} {es = es} {keys = keys} a r s n =
-        let p = froms-in fs es n ∙ ap fromsOf s in
-        let q = tos-in fs es n ∙ ap tosOf s in
-        rw (p, q) (apart-past (omega arith) (apart-from keys a r))
+    pub parts-apart : {n start : ℕ} {fs es : List ℕ} {keys : List ℕ} → length ks ≤ n → ascending ltb keys ≡ true → All (Reaches ks start) keys → spansIn fs es ≡ spansFrom ks start keys → length fs ≡ length es
+        → Apart (Orderly n) (edits vs ts ds) 0 fs es
+    parts-apart {fs = fs} {es = es} {keys = keys} h a r s e =
+        let p = froms-in fs es e ∙ ap fromsOf s in
+        let q = tos-in fs es e ∙ ap tosOf s in
+        rw (p, q) (apart-past (omega arith) (apart-more h (apart-from keys a r)))

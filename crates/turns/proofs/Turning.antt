@@ -170,7 +170,7 @@ module _ {R : Runs} {keys : List ℕ} {p : Progress} {nk nt moments′ nk′ nt�
           same-t = i .times-long ∙ sym (i .values-long);
           same-d = i .diffs-long ∙ sym (i .values-long);
           short = omega (arith, i .values-long, g .in-few);
-          apart = parts-apart i (g .in-ranked) (g .in-modest) (t .reached .ascends) (t .reached .input) (S .in-spans) in-same;
+          apart = parts-apart i (g .in-ranked) (g .in-modest) (g .in-few) (t .reached .ascends) (t .reached .input) (S .in-spans) in-same;
           cut-m = S .moments-cut z;
         };
         same-f = front-long keys (f .ofrom) (t .few) (F .long-ofrom);
@@ -178,7 +178,7 @@ module _ {R : Runs} {keys : List ℕ} {p : Progress} {nk nt moments′ nk′ nt�
         same-t = o .times-long ∙ sym (o .values-long);
         same-d = o .diffs-long ∙ sym (o .values-long);
         out-few = omega (arith, o .values-long, g .out-few);
-        out-apart = parts-apart o (g .out-ranked) (g .out-modest) (t .reached .ascends) (t .reached .out) (S .out-spans) out-same;
+        out-apart = parts-apart o (g .out-ranked) (g .out-modest) (g .out-few) (t .reached .ascends) (t .reached .out) (S .out-spans) out-same;
         lent = l;
         fits = λ z h. rw (S .fixes-same) (t .fits (under z) (sym (S .large-same) ∙ h));
         counts = λ z h. rw (S .crossings-same) (t .counts (under z) (sym (S .large-same) ∙ h));
