@@ -32,12 +32,12 @@ front-part {after = after} {r} c = let z : r - 0 ≡ r = omega arith in ap (λ n
 
 -- ---- segments in a row
 module _ {A : Type 0} where
-  parts-starts : (f : ℕ) (es : List ℕ) (l : List A) → partsOf (startsOf f es) es l ≡ segments f es l
+  pub parts-starts : (f : ℕ) (es : List ℕ) (l : List A) → partsOf (startsOf f es) es l ≡ segments f es l
   unfolding partsOf startsOf segments
   parts-starts f [] l = refl
   parts-starts f (e ∷ es) l = ap (λ s. part f e l ∷ s) (parts-starts e es l)
 
-  apart-starts : {P : List A → Type 0} {l : List A} {f : ℕ} {es : List ℕ} → Cut P l f es → Apart P l f (startsOf f es) es
+  pub apart-starts : {P : List A → Type 0} {l : List A} {f : ℕ} {es : List ℕ} → Cut P l f es → Apart P l f (startsOf f es) es
   unfolding startsOf
   apart-starts done = w.done
   apart-starts (next {f} {e} a b p c) = w.next {k = f} {f = f} (omega arith) a b p (apart-starts c)
@@ -47,7 +47,7 @@ unfolding segments
 length-segments f [] l = refl
 length-segments f (e ∷ es) l = ap suc (length-segments e es l)
 
-length-starts : (f : ℕ) (es : List ℕ) → length (startsOf f es) ≡ length es
+pub length-starts : (f : ℕ) (es : List ℕ) → length (startsOf f es) ≡ length es
 unfolding startsOf
 length-starts f [] = refl
 length-starts f (e ∷ es) = ap suc (length-starts e es)

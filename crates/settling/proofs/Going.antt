@@ -1,62 +1,36 @@
 -- The loop over the rounds of a window.
 --
--- large-first, large-rest: whether the corrections of two lists are too large
+-- drop-none: no round is past
 -- On: the first j rounds are settled, and the others are still to come. Going: that, or they are too large already
 -- goes-off, goes-now: whether there is another round
 -- going-start, going-more, going-kept, going-end: the loop keeps that, and all lengths. going-asks: what a round asks
 use Prim.Native.Nat.{ℕ, suc, _+_, _-_, _<_, _≤_, _^_}
 use native.Mathlib.Omega.{arith}
-use mathlib.Core.Bool.{Bool, true, false, cond, _&&_, _||_, not}
+use mathlib.Core.Bool.{Bool, true, false, cond, _&&_, not}
 use mathlib.Core.Path.{_≡_, refl, sym, _∙_, ap, subst}
-use mathlib.Core.List.{List, [], _∷_, _++_, map, append-nil, append-assoc}
+use mathlib.Core.List.{List, [], _∷_, map}
 use lib.Dec.{ltb}
 use lib.IntN.{ℤ}
-use lib.ListN.{length, take, drop, length-append}
-use borrow.Author.Tests.{lt-ltb, ltb-true, ltb-false, not-true}
-use Rattle.grid.specs.Lists.{any, flat}
-use Rattle.grid.specs.Records.{Row, inRange, rows}
-use Rattle.grid.proofs.Tests.{by-test, clash, and-l, and-r, or-l, or-r, or-false-l}
+use lib.ListN.{length, drop}
+use borrow.Author.Tests.{ltb-true, ltb-false, not-true}
+use Rattle.grid.specs.Lists.{any}
+use Rattle.grid.specs.Records.{Row}
+use Rattle.grid.proofs.Tests.{by-test, clash, and-l, and-r}
 use Rattle.grid.proofs.Lists.{All, all-imp}
 use Rattle.rules.specs.Histories.{Edit}
 use Rattle.rules.specs.Discover.{mostMoments}
 use Rattle.backends.specs.Crossing.{segments}
 use Rattle.moments.specs.Present.{edits}
 use Rattle.moments.specs.Window.{partsOf}
-use Rattle.rounds.specs.Slots.{Slot, slotsOf, rowsNow, crossesNow, slotPast, windowRows, windowCrossings, rowsTooLarge}
+use Rattle.rounds.specs.Slots.{Slot, slotsOf, crossesNow, slotPast, windowRows, windowCrossings, rowsTooLarge}
 use Rattle.correcting.specs.Settle.{Settles, Stands, LentOut, LentFixes, LentSums}
 use Rattle.settling.specs.Rounds.{Rounds, Rounded, spanFrom}
 use Rattle.correcting.specs.declared.Settled.{Settled}
-use Rattle.correcting.proofs.Crossed.{not-large}
-use Rattle.settling.proofs.SlotLaws.{rows-none, crossings-none, spent-slots, rows-past, crossings-past}
+use Rattle.settling.proofs.SlotLaws.{rows-none, crossings-none, spent-slots}
+use Rattle.settling.proofs.Left.{Left, left-start, left-over, left-more, left-end, left-off}
 use Rattle.settling.proofs.Spanning.{span-steps, span-all, span-most}
 
--- ---- too large
-abbrev out : Row → Bool
-out r = not (inRange (r .diff))
-
-any-over : (R S : List Row) → any out (R ++ S) ≡ (any out R || any out S)
-any-over [] S = refl
-any-over (x ∷ R) S = by-test (out x) (λ e. rw e) (λ e. rw e (any-over R S))
-
-large-first : (n : ℕ) (R S : List Row) → rowsTooLarge n R ≡ true → rowsTooLarge n (R ++ S) ≡ true
-unfolding rowsTooLarge
-large-first n R S h =
-    by-test (any out R)
-    (λ e. or-l (any out (R ++ S)) (ltb 4096 (n + length (R ++ S))) (any-over R S ∙ rw e))
-    (λ e. let g : ltb 4096 (n + length R) ≡ true = rw e at h in
-    let k : 4096 < n + length R = ltb-true 4096 (n + length R) g in
-    let l : length (R ++ S) ≡ length R + length S = length-append R S in
-    or-r (any out (R ++ S)) (ltb 4096 (n + length (R ++ S))) (lt-ltb 4096 (n + length (R ++ S)) (omega arith)))
-
-large-rest : (n : ℕ) (R S : List Row) → rowsTooLarge n R ≡ false → rowsTooLarge n (R ++ S) ≡ rowsTooLarge (n + length R) S
-unfolding rowsTooLarge
-large-rest n R S h =
-    let e : any out R ≡ false = or-false-l (any out R) (ltb 4096 (n + length R)) h in
-    let a : any out (R ++ S) ≡ any out S = any-over R S ∙ rw e in
-    let l : n + length (R ++ S) ≡ n + length R + length S = (let q : length (R ++ S) ≡ length R + length S = length-append R S in omega arith) in
-    λ z. a z || ltb 4096 (l z)
-
-one : (b : Bool) → cond b 1 0 ≤ 1
+pub one : (b : Bool) → cond b 1 0 ≤ 1
 one true = omega arith
 one false = omega arith
 
@@ -66,13 +40,9 @@ goes-off b x e = rw e
 pub goes-now : (b x : Bool) → b ≡ false → x ≡ (not b && x)
 goes-now b x e = rw e
 
-drop-none : (ms : List (List ℕ)) → map (drop 0) ms ≡ ms
+pub drop-none : (ms : List (List ℕ)) → map (drop 0) ms ≡ ms
 drop-none [] = refl
 drop-none (m ∷ ms) = ap (λ l. m ∷ l) (drop-none ms)
-
-module _ (fk fv ft : List ℕ) (fd : List ℤ) (n : ℕ) where
-  abbrev pub listed : List Row
-  listed = rows (take n fk) (take n fv) (take n ft) (take n fd)
 
 module _ (mode : ℕ) (keys : List ℕ) (is : List (List Edit)) (ms : List (List ℕ)) (j : ℕ) (os : List (List Edit)) where
   abbrev pub slotsLeft : List Slot
@@ -87,10 +57,7 @@ module _ (mode : ℕ) (keys : List ℕ) (is : List (List Edit)) (ms : List (List
 pub record On (mode : ℕ) (keys : List ℕ) (is : List (List Edit)) (ms : List (List ℕ)) (j : ℕ) (W : List Row) (X : ℕ) (p r : Settled) (fk₀ fv₀ ft₀ : List ℕ) (fd₀ : List ℤ) (ue uv ut : List ℕ) (ud : List ℤ) (fk fv ft : List ℕ) (fd : List ℤ) : Type 0 where
   pub stands : Stands ue uv ut ud r
   pub counts : r .crossings ≤ p .crossings + j
-  pub large-is : rowsTooLarge (p .fixes) W ≡ rowsTooLarge (r .fixes) (rowsLeft mode keys is ms j (segments 0 ue (edits uv ut ud)))
-  pub fixes-are : r .fixes + length (rowsLeft mode keys is ms j (segments 0 ue (edits uv ut ud))) ≡ p .fixes + length W
-  pub rows-are : listed fk fv ft fd (r .fixes) ++ rowsLeft mode keys is ms j (segments 0 ue (edits uv ut ud)) ≡ listed fk₀ fv₀ ft₀ fd₀ (p .fixes) ++ W
-  pub crossings-are : r .crossings + crossingsLeft mode keys is ms j (segments 0 ue (edits uv ut ud)) ≡ p .crossings + X
+  pub left : Left mode (mostMoments - j) (slotsLeft mode keys is ms j (segments 0 ue (edits uv ut ud))) W X p r fk₀ fv₀ ft₀ fd₀ fk fv ft fd
 
 pub record Going (mode : ℕ) (keys moments mends fs es tv tt : List ℕ) (td : List ℤ) (ue₀ uv₀ ut₀ : List ℕ) (ud₀ : List ℤ) (iv₀ : List ℕ) (id₀ : List ℤ) (ov₀ : List ℕ) (od₀ : List ℤ) (cv₀ : List ℕ) (cd₀ : List ℤ) (fk₀ fv₀ ft₀ : List ℕ) (fd₀ : List ℤ) (p : Settled) (most : ℕ)
     (ue uv ut : List ℕ) (ud : List ℤ) (iv : List ℕ) (id : List ℤ) (ov : List ℕ) (od : List ℤ) (cv : List ℕ) (cd : List ℤ) (fk fv ft : List ℕ) (fd : List ℤ) (j : ℕ) (r : Settled) : Type 0 where
@@ -116,7 +83,7 @@ going-start {p = p} mode x f e = record {
   sums = x .sums;
   lent = x .lent;
   over = λ h. clash (p .large) h (x .going);
-  on = λ h. record { stands = x .stands; counts = omega arith; large-is = refl; fixes-are = refl; rows-are = refl; crossings-are = refl };
+  on = λ h. record { stands = x .stands; counts = omega arith; left = left-start };
 }
 
 module _ {mode : ℕ} {keys moments mends fs es tv tt : List ℕ} {td : List ℤ} {ue₀ uv₀ ut₀ : List ℕ} {ud₀ : List ℤ} {iv₀ : List ℕ} {id₀ : List ℤ} {ov₀ : List ℕ} {od₀ : List ℤ} {cv₀ : List ℕ} {cd₀ : List ℤ} {fk₀ fv₀ ft₀ : List ℕ} {fd₀ : List ℤ} {p : Settled} {most : ℕ}
@@ -167,48 +134,21 @@ module _ {mode : ℕ} {keys moments mends fs es tv tt : List ℕ} {td : List ℤ
 
     module _ {ue′ uv′ ut′ : List ℕ} {ud′ : List ℤ} {fk′ fv′ ft′ : List ℕ} {fd′ : List ℤ} {q : Settled}
         (d : Rounded mode keys is ms j os r q fk fv ft fd ue′ uv′ ut′ ud′ fk′ fv′ ft′ fd′) where
-      abbrev R : List Row
-      R = flat (rowsNow mode) ss
-
-      abbrev rest : List Row
-      rest = windowRows mode (mostMoments - (j + 1)) (map (slotPast mode) ss)
-
-      abbrev restX : ℕ
-      restX = windowCrossings mode (mostMoments - (j + 1)) (map (slotPast mode) ss)
-
       rounds-n : mostMoments - j ≡ suc (mostMoments - (j + 1))
       rounds-n = let a : j < most = before in let b : most ≤ 1024 = most-few in omega arith
 
-      left-is : rowsLeft mode keys is ms j os ≡ R ++ rest
-      left-is = ap (λ n. windowRows mode n ss) rounds-n ∙ rows-past mode (mostMoments - (j + 1)) ss
-
-      crossed-is : crossingsLeft mode keys is ms j os ≡ cond (any (crossesNow mode) ss) 1 0 + restX
-      crossed-is = ap (λ n. windowCrossings mode n ss) rounds-n ∙ crossings-past mode (mostMoments - (j + 1)) ss
-
-      over-now : q .large ≡ true → rowsTooLarge (p .fixes) W ≡ true
-      over-now h = g .on open-yet .large-is ∙ ap (rowsTooLarge (r .fixes)) left-is ∙ large-first (r .fixes) R rest (sym (d .settles .large-is) ∙ h)
+      left-now : Left mode (suc (mostMoments - (j + 1))) ss W X p r fk₀ fv₀ ft₀ fd₀ fk fv ft fd
+      left-now = subst (λ (n : ℕ). Left mode n ss W X p r fk₀ fv₀ ft₀ fd₀ fk fv ft fd) rounds-n (g .on open-yet .left)
 
       on-now : q .large ≡ false → On mode keys is ms (j + 1) W X p q fk₀ fv₀ ft₀ fd₀ ue′ uv′ ut′ ud′ fk′ fv′ ft′ fd′
       on-now h =
-          let o = g .on open-yet in
-          let w = d .settles .grown h in
           let s : slotsLeft mode keys is ms (j + 1) (segments 0 ue′ (edits uv′ ut′ ud′)) ≡ map (slotPast mode) ss = d .slots-are h in
-          let a : rowsLeft mode keys is ms (j + 1) (segments 0 ue′ (edits uv′ ut′ ud′)) ≡ rest = ap (windowRows mode (mostMoments - (j + 1))) s in
-          let b : crossingsLeft mode keys is ms (j + 1) (segments 0 ue′ (edits uv′ ut′ ud′)) ≡ restX = ap (windowCrossings mode (mostMoments - (j + 1))) s in
-          let e : q .fixes ≡ r .fixes + length R = w .fixes-are in
-          let n : length (rowsLeft mode keys is ms j os) ≡ length R + length rest = ap length left-is ∙ length-append R rest in
-          let n′ : length (rowsLeft mode keys is ms (j + 1) (segments 0 ue′ (edits uv′ ut′ ud′))) ≡ length rest = ap length a in
-          let f : r .fixes + length (rowsLeft mode keys is ms j os) ≡ p .fixes + length W = o .fixes-are in
-          let x : q .crossings ≡ r .crossings + cond (any (crossesNow mode) ss) 1 0 = w .crossings-are in
-          let y : r .crossings + crossingsLeft mode keys is ms j os ≡ p .crossings + X = o .crossings-are in
-          let c : r .crossings ≤ p .crossings + j = o .counts in
+          let x : q .crossings ≡ r .crossings + cond (any (crossesNow mode) ss) 1 0 = d .settles .grown h .crossings-are in
+          let c : r .crossings ≤ p .crossings + j = g .on open-yet .counts in
           record {
             stands = d .stands h;
             counts = omega (arith, one (any (crossesNow mode) ss));
-            large-is = o .large-is ∙ ap (rowsTooLarge (r .fixes)) left-is ∙ large-rest (r .fixes) R rest (sym (d .settles .large-is) ∙ h) ∙ (let e′ = sym e in let a′ = sym a in λ z. rowsTooLarge (e′ z) (a′ z));
-            fixes-are = omega arith;
-            rows-are = ap (λ l. listed fk′ fv′ ft′ fd′ (q .fixes) ++ l) a ∙ ap (λ l. l ++ rest) (w .rows-are) ∙ append-assoc (listed fk fv ft fd (r .fixes)) R rest ∙ ap (λ l. listed fk fv ft fd (r .fixes) ++ l) (sym left-is) ∙ o .rows-are;
-            crossings-are = omega (arith, b, crossed-is);
+            left = left-more left-now (d .settles) (slotsLeft mode keys is ms (j + 1) (segments 0 ue′ (edits uv′ ut′ ud′))) (ap (windowRows mode (mostMoments - (j + 1))) s) (ap (windowCrossings mode (mostMoments - (j + 1))) s) h;
           }
 
       module _ {iv′ : List ℕ} {id′ : List ℤ} {ov′ : List ℕ} {od′ : List ℤ} {cv′ : List ℕ} {cd′ : List ℤ} (lue : length ue′ ≡ length ue) (luv : length uv′ ≡ length uv) (lut : length ut′ ≡ length ut) (lud : length ud′ ≡ length ud) (liv : length iv′ ≡ length iv) (lid : length id′ ≡ length id) (lov : length ov′ ≡ length ov) (lod : length od′ ≡ length od)
@@ -221,7 +161,7 @@ module _ {mode : ℕ} {keys moments mends fs es tv tt : List ℕ} {td : List ℤ
           out = record { few = g .out .few; ends-e = lue ∙ g .out .ends-e; long-v = luv ∙ g .out .long-v; long-t = lut ∙ g .out .long-t; long-d = lud ∙ g .out .long-d };
           sums = record { long-iv = liv ∙ g .sums .long-iv; long-ov = lov ∙ g .sums .long-ov; long-id = lid ∙ g .sums .long-id; long-od = lod ∙ g .sums .long-od; long-cv = lcv ∙ g .sums .long-cv; long-cd = lcd ∙ g .sums .long-cd };
           lent = record { long-k = lfk ∙ g .lent .long-k; long-v = lfv ∙ g .lent .long-v; long-t = lft ∙ g .lent .long-t; long-d = lfd ∙ g .lent .long-d };
-          over = over-now;
+          over = left-over left-now (d .settles);
           on = on-now;
         }
 
@@ -233,28 +173,10 @@ module _ {mode : ℕ} {keys moments mends fs es tv tt : List ℕ} {td : List ℤ
   spent : most ≤ j → All (λ (s : Slot). s .moments ≡ []) ss
   spent h = spent-slots mode j keys is os ms (all-imp (λ m e. (let a : most ≡ spanFrom 0 0 mends = g .most-is in omega arith)) (span-all 0 (g .asks .slotted .cut-m)))
 
-  end-off : r .large ≡ true → Settles W X p r fk₀ fv₀ ft₀ fd₀ fk fv ft fd
-  end-off h = record { large-is = h ∙ sym (g .over h); grown = λ e. clash (r .large) h e }
-
-  end-on : r .large ≡ false → most ≤ j → Settles W X p r fk₀ fv₀ ft₀ fd₀ fk fv ft fd
-  end-on h k =
-      let o = g .on h in
-      let a : rowsLeft mode keys is ms j os ≡ [] = rows-none mode (mostMoments - j) (spent k) in
-      let b : crossingsLeft mode keys is ms j os ≡ 0 = crossings-none mode (mostMoments - j) (spent k) in
-      let n : length (rowsLeft mode keys is ms j os) ≡ 0 = ap length a in
-      let f : r .fixes + length (rowsLeft mode keys is ms j os) ≡ p .fixes + length W = o .fixes-are in
-      let y : r .crossings + crossingsLeft mode keys is ms j os ≡ p .crossings + X = o .crossings-are in
-      record {
-        large-is = h ∙ sym (o .large-is ∙ ap (rowsTooLarge (r .fixes)) a ∙ not-large (r .fixes) (o .stands .fits));
-        grown = λ e. record {
-          fixes-are = omega arith;
-          rows-are = sym (append-nil (listed fk fv ft fd (r .fixes))) ∙ ap (λ l. listed fk fv ft fd (r .fixes) ++ l) (sym a) ∙ o .rows-are;
-          crossings-are = omega arith;
-        };
-      }
-
   pub going-end : (not (r .large) && ltb j most) ≡ false
       → Settles (windowRows mode mostMoments (slotsOf keys is (segments 0 ue₀ (edits uv₀ ut₀ ud₀)) ms)) (windowCrossings mode mostMoments (slotsOf keys is (segments 0 ue₀ (edits uv₀ ut₀ ud₀)) ms)) p r fk₀ fv₀ ft₀ fd₀ fk fv ft fd
   going-end t =
       subst (λ (l : List (List ℕ)). Settles (windowRows mode mostMoments (slotsOf keys is (segments 0 ue₀ (edits uv₀ ut₀ ud₀)) l)) (windowCrossings mode mostMoments (slotsOf keys is (segments 0 ue₀ (edits uv₀ ut₀ ud₀)) l)) p r fk₀ fv₀ ft₀ fd₀ fk fv ft fd) (drop-none ms)
-      (by-test (r .large) (λ h. end-off h) (λ h. end-on h (ltb-false j most (goes-now (r .large) (ltb j most) h ∙ t))))
+      (by-test (r .large) (λ h. left-off h (g .over h))
+      (λ h. let k : most ≤ j = ltb-false j most (goes-now (r .large) (ltb j most) h ∙ t) in
+      left-end (g .on h .left) h (g .on h .stands .fits) (rows-none mode (mostMoments - j) (spent k)) (crossings-none mode (mostMoments - j) (spent k))))

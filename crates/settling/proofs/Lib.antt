@@ -3,3 +3,4 @@ pub mod Presented
 pub mod Spanning
 pub mod Rounded
 pub mod Going
+pub mod Left
