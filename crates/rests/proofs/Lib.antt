@@ -1,0 +1,4 @@
+pub mod Under
+pub mod Loading
+pub mod Meeting
+pub mod Nearing
