@@ -1,0 +1,6 @@
+pub mod Columns
+pub mod Slot
+pub mod Bounds
+pub mod Ahead
+pub mod Row
+pub mod InPlace
