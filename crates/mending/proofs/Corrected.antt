@@ -1,5 +1,6 @@
 -- A window's rounds, from the memory and the progress of a call.
 --
+-- settle-weighs: what choosing a way asks. settle-replays: what the collapsed replay asks
 -- settle-room: result memory has room for their column of values. settle-lays: what laying the slots' output in a row asks
 -- settle-within: the part for the ends lies within its array. settle-counts, settle-begins: what the rounds ask. settle-ends: what they give
 -- past p s: a call that has come as far as p, and then settled a window to s
@@ -24,12 +25,15 @@ use Rattle.moments.specs.Window.{partsOf}
 use Rattle.moments.proofs.Orderly.{cut-more}
 use Rattle.rounds.specs.Slots.{slotsOf, windowRows, windowCrossings}
 use Rattle.correcting.specs.Back.{LaysOut, LaidOut}
-use Rattle.correcting.specs.Settle.{Settles}
+use Rattle.correcting.specs.Settle.{Settles, LentSums}
 use Rattle.correcting.specs.declared.Settled.{Settled}
 use Rattle.settling.specs.Rounds.{Rounds}
+use Rattle.settling.specs.Slotted.{Slotted}
+use Rattle.settling.proofs.Spanning.{span-steps}
+use Rattle.replaying.specs.Replays.{Replays}
 use Rattle.placing.proofs.Parts.{first-length, first-part}
 use Rattle.seeking.specs.declared.Progress.{Progress}
-use Rattle.mending.specs.Corrected.{settledOf, Wide, Corrects, Corrected}
+use Rattle.mending.specs.Corrected.{settledOf, Wide, Corrects, Corrected, Weighs}
 
 pub settle-room : {uv ut : List ℕ} {ud : List ℤ} {iv : List ℕ} {id : List ℤ} {ov : List ℕ} {od cd : List ℤ} {res : List ℕ} → Wide uv ut ud iv id ov od cd res → 16384 ≤ length res
 settle-room w = omega (arith, w .room-res)
@@ -51,7 +55,42 @@ module _ {keys moments mends fs es tv tt : List ℕ} {td : List ℤ} {ofs oes ov
   pub settle-counts : (p .over || p .large) ≡ false → p .crossings < 2 ^ 60
   settle-counts g = x .counts (or-false-l (p .over) (p .large) g) (or-false-r (p .over) (p .large) g)
 
+  pub settle-weighs : (p .over || p .large) ≡ false → Weighs mends fs es ofs oes
+  settle-weighs g =
+      let s : Slotted n moments mends fs es tv tt td = x .slotted (or-false-l (p .over) (p .large) g) in
+      let m : length mends ≡ n = s .same-m in
+      let f : n ≤ 64 = x .few in
+      record { few = omega arith; steps = span-steps (s .cut-m); same-e = s .same-e ∙ sym (s .same-f); same-oe = x .same-e ∙ sym (x .same-f) }
+
   module _ {uv ut : List ℕ} {ud : List ℤ} {iv : List ℕ} {id : List ℤ} {ov : List ℕ} {od cd : List ℤ} {res : List ℕ} (w : Wide uv ut ud iv id ov od cd res) where
+    lent-sums : LentSums iv ov id od (take (16384 - 0) res) cd
+    lent-sums = let room : 20480 ≤ length res = w .room-res in record { long-iv = w .long-iv; long-ov = w .long-ov; long-id = w .long-id; long-od = w .long-od; long-cv = length-take-le (16384 - 0) res (omega arith); long-cd = w .long-cd }
+
+    pub settle-replays : (p .over || p .large) ≡ false → Replays keys moments mends fs es tv tt td ofs oes ovs ots ods uv ut ud iv id ov od (take (16384 - 0) res) cd fk fv ft fd (settledOf p)
+    settle-replays g =
+        let over : p .over ≡ false = or-false-l (p .over) (p .large) g in
+        let large : p .large ≡ false = or-false-r (p .over) (p .large) g in
+        record {
+          few = x .few;
+          slotted = x .slotted over;
+          light-in = x .in-light;
+          same-f = x .same-f;
+          same-e = x .same-e;
+          same-t = x .same-t;
+          same-d = x .same-d;
+          out-few = x .out-few;
+          out-apart = x .out-apart;
+          light-out = x .out-light;
+          long-v = w .long-uv;
+          long-t = w .long-ut;
+          long-d = w .long-ud;
+          fits = x .fits over large;
+          sums = lent-sums;
+          lent = x .lent;
+          counts = settle-counts g;
+          going = large;
+        }
+
     -- the ends of the row, at first
     abbrev ue : List ℕ
     ue = replicate 64 0
@@ -98,7 +137,6 @@ module _ {keys moments mends fs es tv tt : List ℕ} {td : List ℤ} {ofs oes ov
           let large : p .large ≡ false = or-false-r (p .over) (p .large) g in
           let k : p .crossings < 2 ^ 60 = settle-counts g in
           let o : length ovs ≤ mostRecords = x .out-few in
-          let room : 20480 ≤ length res = w .room-res in
           record {
             slotted = x .slotted over;
             out = record {
@@ -108,14 +146,7 @@ module _ {keys moments mends fs es tv tt : List ℕ} {td : List ℤ} {ofs oes ov
               long-t = b ∙ w .long-ut;
               long-d = c ∙ w .long-ud;
             };
-            sums = record {
-              long-iv = w .long-iv;
-              long-ov = w .long-ov;
-              long-id = w .long-id;
-              long-od = w .long-od;
-              long-cv = length-take-le (16384 - 0) res (omega arith);
-              long-cd = w .long-cd;
-            };
+            sums = lent-sums;
             lent = x .lent;
             stands = rw ends-are (record { cut = cut-more (omega arith) (y .cut); end = omega (arith, y .end); fits = x .fits over large });
             counts = omega arith;

@@ -1,13 +1,14 @@
 -- A window's turn, second half: its rounds, unless a limit was passed or the corrections are too large already.
 --
--- settledOf: what the rounds count. Corrects: what they ask. Corrected: what they leave
-use Prim.Native.Nat.{ℕ, _≤_, _<_, _^_}
+-- settledOf: what the rounds count. Corrects: what they ask. Corrected: what they leave. Weighs: what choosing between the two ways of settling them asks
+use Prim.Native.Nat.{ℕ, _*_, _≤_, _<_, _^_}
 use mathlib.Core.Bool.{true, false}
 use mathlib.Core.List.{List}
 use mathlib.Core.Path.{_≡_}
-use lib.IntN.{ℤ}
+use lib.IntN.{ℤ, natAbs}
 use lib.ListN.{length}
 use Rattle.grid.specs.Records.{mostRecords}
+use Rattle.grid.proofs.Sizes.{mass}
 use Rattle.rules.specs.Histories.{Edit}
 use Rattle.rules.specs.Discover.{mostMoments}
 use Rattle.moments.specs.Present.{edits}
@@ -16,6 +17,7 @@ use Rattle.rounds.specs.Slots.{slotsOf, windowRows, windowCrossings}
 use Rattle.correcting.specs.Settle.{Settles, LentFixes}
 use Rattle.correcting.specs.declared.Settled.{Settled}
 use Rattle.settling.specs.Slotted.{Slotted}
+use Rattle.settling.specs.Rounds.{Steps}
 use Rattle.seeking.specs.declared.Progress.{Progress}
 
 abbrev pub settledOf : Progress → Settled
@@ -42,6 +44,8 @@ pub record Corrects (keys moments mends fs es tv tt : List ℕ) (td : List ℤ) 
   pub same-d : length od ≡ length ov
   pub out-few : length ov ≤ mostRecords
   pub out-apart : Apart (Orderly mostRecords) (edits ov ot od) 0 ofs oes
+  pub in-light : mass natAbs (edits tv tt td) ≤ 8192 * 2 ^ 31
+  pub out-light : mass natAbs (edits ov ot od) ≤ mostRecords * 2 ^ 31
   pub lent : LentFixes fk fv ft fd
   pub fits : p .over ≡ false → p .large ≡ false → p .fixes ≤ mostRecords
   pub counts : p .over ≡ false → p .large ≡ false → p .crossings < 2 ^ 60
@@ -56,3 +60,9 @@ pub record Corrected (mode : ℕ) (keys : List ℕ) (is os : List (List Edit)) (
   pub over-same : r .over ≡ p .over
   pub stays-large : p .large ≡ true → r .large ≡ true
   pub settles : p .over ≡ false → p .large ≡ false → Settles (windowRows mode mostMoments (slotsOf keys is os ms)) (windowCrossings mode mostMoments (slotsOf keys is os ms)) (settledOf p) (settledOf r) fk fv ft fd fk′ fv′ ft′ fd′
+
+pub record Weighs (mends fs es ofs oes : List ℕ) : Type 0 where
+  pub few : length mends ≤ 64
+  pub steps : Steps 0 mends
+  pub same-e : length es ≡ length fs
+  pub same-oe : length oes ≡ length ofs

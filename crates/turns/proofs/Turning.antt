@@ -33,7 +33,7 @@ use Rattle.turns.specs.declared.Fronts.{Fronts}
 use Rattle.turns.specs.Runs.{Runs, inRows, outRows, foundOf, slotAt, Good}
 use Rattle.mending.specs.Corrected.{Wide, Corrects, Corrected}
 use Rattle.turns.specs.Worked.{LentWork, LentFronts, Full, Takes, Turned}
-use Rattle.turns.proofs.Parts.{parts-are, parts-apart}
+use Rattle.turns.proofs.Parts.{edits-light, parts-are, parts-apart}
 
 module _ {R : Runs} (g : Good R) where
   pub in-sorted : Sorted leb (R .inKeys)
@@ -179,6 +179,8 @@ module _ {R : Runs} {keys : List ℕ} {p : Progress} {nk nt moments′ nk′ nt�
         same-d = o .diffs-long ∙ sym (o .values-long);
         out-few = omega (arith, o .values-long, g .out-few);
         out-apart = parts-apart o (g .out-ranked) (g .out-modest) (g .out-few) (t .reached .ascends) (t .reached .out) (S .out-spans) out-same;
+        in-light = omega (arith, edits-light (R .inValues) (R .inTimes) (g .in-modest), i .diffs-long, g .in-few);
+        out-light = omega (arith, edits-light (R .outValues) (R .outTimes) (g .out-modest), o .diffs-long, g .out-few);
         lent = l;
         fits = λ z h. rw (S .fixes-same) (t .fits (under z) (sym (S .large-same) ∙ h));
         counts = λ z h. rw (S .crossings-same) (t .counts (under z) (sym (S .large-same) ∙ h));
