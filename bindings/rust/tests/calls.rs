@@ -1,20 +1,32 @@
 //! Checks by hand of document 01, through the boundary.
-use daniskol::{Mode, Refusal, Run, Status, Tactic, Time};
+use daniskol::{Answer, Mode, Refusal, Run, Status, Tactic, Time};
 
 const START: [Time; 1] = [Time::new(0, 0)];
+
+const MEET: [Time; 1] = [Time::new(1, 1)];
 
 fn at(hour: u32, round: u32) -> u64 {
     Time::new(hour, round).packed()
 }
 
-// Two edits that stand in no order, up to (1,1); then the call in which their join comes due.
+// Two edits that stand in no order.
+fn edits(times: &[u64; 2]) -> Run<'_> {
+    Run { keys: &[7, 7], values: &[1, 1], times, diffs: &[1, 1] }
+}
+
+// A tactic that was called with them up to (1,1), and what it answered.
+fn called(times: &[u64; 2]) -> (Tactic, Answer) {
+    let mut tactic = Tactic::new(Mode::Count, 1);
+    let first = tactic.retire(Run::EMPTY, edits(times), Run::EMPTY, &START, &MEET, &START).unwrap();
+    (tactic, first)
+}
+
+// The join of the two comes due in the next call.
 #[test]
 fn a_pended_join_is_kept_and_settled_by_the_next_call() {
-    let mut tactic = Tactic::new(Mode::Count, 1);
     let times = [at(0, 1), at(1, 0)];
-    let new = Run { keys: &[7, 7], values: &[1, 1], times: &times, diffs: &[1, 1] };
-    let meet = [Time::new(1, 1)];
-    let first = tactic.retire(Run::EMPTY, new, Run::EMPTY, &START, &meet, &START).unwrap();
+    let (mut tactic, first) = called(&times);
+    let (new, meet) = (edits(&times), MEET);
     assert_eq!((first.status, first.fixes.len(), first.frontier.as_slice()), (Status::Worked, 2, &meet[..]));
     assert_eq!(tactic.pending().collect::<Vec<_>>(), [(7, Time::new(1, 1))]);
 
@@ -30,11 +42,9 @@ fn a_pended_join_is_kept_and_settled_by_the_next_call() {
 
 #[test]
 fn a_refused_call_keeps_the_pending_list() {
-    let mut tactic = Tactic::new(Mode::Count, 1);
     let times = [at(0, 1), at(1, 0)];
-    let new = Run { keys: &[7, 7], values: &[1, 1], times: &times, diffs: &[1, 1] };
-    let meet = [Time::new(1, 1)];
-    tactic.retire(Run::EMPTY, new, Run::EMPTY, &START, &meet, &START).unwrap();
+    let (mut tactic, _) = called(&times);
+    let meet = MEET;
     let zero = Run { keys: &[7], values: &[1], times: &times[..1], diffs: &[0] };
     assert_eq!(tactic.retire(zero, Run::EMPTY, Run::EMPTY, &meet, &[], &meet), Err(Refusal::Run));
     let uneven = Run { keys: &[7], values: &[], times: &[], diffs: &[] };
