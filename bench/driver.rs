@@ -77,13 +77,13 @@ fn shapes() -> Vec<Shape> {
     for (mode, word) in [(1, "count"), (2, "distinct")] {
         let mut add = |kind: &'static str, keys: u64, times: usize, values: u64| l.push(Shape { name: format!("{word}-{kind}-{keys}x{times}x{values}"), mode, kind, keys, times, values });
         // A count writes two corrections for most moments, and 4,096 is the limit.
-        let (most, some) = if mode == 1 { (2048, 15) } else { (4096, 32) };
+        let (most, some) = if mode == 1 { (2048, 11) } else { (4096, 32) };
         for kind in ["chain", "grid"] {
             for (keys, times, values) in [(1, 1024, 4), (16, 64, 4), (256, 4, 4), (most, 1, 1)] {
                 add(kind, keys, times, values);
             }
         }
-        for (keys, times, values) in [(1, 44, 4), (16, some, 4), (256, 3, 4)] {
+        for (keys, times, values) in [(1, 44, 4), (16, some, 4), (256, 2, 4)] {
             add("antichain", keys, times, values);
         }
         for keys in [1, 16, 256, 4096] {
