@@ -1,8 +1,6 @@
 -- Edits in three columns, and parts of them.
 --
--- edits-both: the columns with the times first are the same edits
--- edits-times: the times, taken out of the edits again. edits-long: how many there are. edits-of: the columns of a list of edits
--- take-edits: the front of each column. edits-append: columns one after the other
+-- edits-times: the times, taken out of the edits again. edits-of: the columns of a list of edits. take-edits: the front of each column
 -- rows-front: edits that were appended to three columns, with what stood before them
 -- front-before, front-after: a front that is in two parts, each of them alone
 use Prim.Native.Nat.{ℕ, _+_, _-_, _≤_}
@@ -10,47 +8,24 @@ use native.Mathlib.Omega.{arith}
 use mathlib.Core.Path.{_≡_, refl, sym, _∙_, ap, subst}
 use mathlib.Core.List.{List, [], _∷_, _++_, map}
 use lib.IntN.{ℤ}
-use lib.ListN.{length, take, drop, length-take, length-map}
+use lib.ListN.{length, take, drop, length-take}
 use lib.Seq.{take-take, take-add, take-at, drop-at}
-use Rattle.grid.proofs.Operations.{no-length}
 use Rattle.rules.specs.Histories.{Edit, timeOf, valueOf}
-use Rattle.edits.specs.Edits as timed
 use Rattle.edits.proofs.Edits.{times-edits}
 use Rattle.backends.specs.Crossing.{part}
-use Rattle.backends.proofs.Columns.{less}
 use Rattle.moments.specs.Present.{edits}
-use Rattle.moments.proofs.Showing.{edits-values, part-edits}
+use Rattle.moments.proofs.Showing.{part-edits}
 use Rattle.rounds.specs.Merges.{Rows}
-
-pub edits-both : (ts vs : List ℕ) (ds : List ℤ) → timed.edits ts vs ds ≡ edits vs ts ds
-unfolding timed.edits edits
-edits-both [] [] ds = refl
-edits-both [] (v ∷ vs) ds = refl
-edits-both (t ∷ ts) [] ds = refl
-edits-both (t ∷ ts) (v ∷ vs) [] = refl
-edits-both (t ∷ ts) (v ∷ vs) (d ∷ ds) = ap (λ l. ((t, v), d) ∷ l) (edits-both ts vs ds)
+use Rattle.rests.proofs.Columns.{edits-both, edits-append}
 
 module _ (vs ts : List ℕ) (ds : List ℤ) (a : length ts ≡ length vs) (b : length ds ≡ length vs) where
   pub edits-times : map timeOf (edits vs ts ds) ≡ ts
   edits-times = ap (map timeOf) (sym (edits-both ts vs ds)) ∙ times-edits ts vs ds (record { values = sym a; diffs = b ∙ sym a })
 
-  pub edits-long : length (edits vs ts ds) ≡ length vs
-  edits-long = sym (length-map (edits vs ts ds) valueOf) ∙ ap length (edits-values vs ts ds a b)
-
 pub take-edits : (n : ℕ) (vs ts : List ℕ) (ds : List ℤ) → take n (edits vs ts ds) ≡ edits (take n vs) (take n ts) (take n ds)
 take-edits n vs ts ds =
     let z : n - 0 ≡ n = omega arith in
     sym (subst (λ (k : ℕ). edits (take k vs) (take k ts) (take k ds) ≡ take k (edits vs ts ds)) z (part-edits 0 n vs ts ds))
-
-pub edits-append : (vs ts : List ℕ) (ds : List ℤ) (vs′ ts′ : List ℕ) (ds′ : List ℤ) → length ts ≡ length vs → length ds ≡ length vs
-    → edits (vs ++ vs′) (ts ++ ts′) (ds ++ ds′) ≡ edits vs ts ds ++ edits vs′ ts′ ds′
-unfolding edits
-edits-append [] [] [] vs′ ts′ ds′ a b = refl
-edits-append [] [] (d ∷ ds) vs′ ts′ ds′ a b = no-length (length ds) b
-edits-append [] (t ∷ ts) ds vs′ ts′ ds′ a b = no-length (length ts) a
-edits-append (v ∷ vs) [] ds vs′ ts′ ds′ a b = no-length (length vs) (sym a)
-edits-append (v ∷ vs) (t ∷ ts) [] vs′ ts′ ds′ a b = no-length (length vs) (sym b)
-edits-append (v ∷ vs) (t ∷ ts) (d ∷ ds) vs′ ts′ ds′ a b = ap (λ l. ((t, v), d) ∷ l) (edits-append vs ts ds vs′ ts′ ds′ (less a) (less b))
 
 edits-of : (es : List Edit) → edits (map valueOf es) (map timeOf es) (map (λ (e : Edit). e .1) es) ≡ es
 unfolding edits valueOf timeOf

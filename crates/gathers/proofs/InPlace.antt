@@ -34,7 +34,8 @@ use Rattle.correcting.proofs.InRow.{holds-segments, holds-cut}
 use Rattle.correcting.proofs.Laid.{length-parts}
 use Rattle.rests.specs.Rests.{Timely}
 use Rattle.gathers.specs.Gathered.{upTo, throughAt, pastAt, gatheredAt, throughsOf, Passes, Gathers, Gathered, Collapses, Collapsed}
-use Rattle.gathers.proofs.Columns.{edits-times, edits-long, take-edits, edits-append}
+use Rattle.rests.proofs.Columns.{edits-long, edits-append}
+use Rattle.gathers.proofs.Columns.{edits-times, take-edits}
 use Rattle.gathers.proofs.Bounds.{length-through, length-gathered, moved-mass, gathered-ascends, past-ordered}
 
 -- ---- the front of edits, and of their times

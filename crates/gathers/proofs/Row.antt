@@ -28,7 +28,7 @@ use Rattle.moments.specs.Window.{partsOf, Apart}
 use Rattle.moments.proofs.Showing.{part-edits, apart-next, apart-past, parts-next}
 use Rattle.rests.specs.Rests.{Timely}
 use Rattle.gathers.specs.Gathered.{Ascends, gatheredAt, Joins, Joined, Gathers, Gathered}
-use Rattle.gathers.proofs.Columns.{edits-long}
+use Rattle.rests.proofs.Columns.{edits-long}
 
 advanced-long : (m : ℕ) (es : List Edit) → length (advanceEdits (some m) es) ≤ length es
 advanced-long m es = omega (arith, advance-mass sizing-one (some m) es, mass-one (advanceEdits (some m) es), mass-one es)

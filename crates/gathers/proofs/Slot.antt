@@ -26,7 +26,8 @@ use Rattle.moments.specs.Present.{edits}
 use Rattle.moments.proofs.Showing.{part-edits}
 use Rattle.rounds.specs.Merges.{Rows, Lays}
 use Rattle.gathers.specs.Gathered.{LentPart, Joins, Joined}
-use Rattle.gathers.proofs.Columns.{edits-both, edits-long, take-edits, edits-append, rows-front, front-before, front-after}
+use Rattle.rests.proofs.Columns.{edits-both, edits-long, edits-append}
+use Rattle.gathers.proofs.Columns.{take-edits, rows-front, front-before, front-after}
 
 pub part-asks : {count : ℕ} {ts vs : List ℕ} {ds : List ℤ} {places : List ℕ} {sums : List ℤ} {n : ℕ} → (count ≤ n) × LentPart count ts vs ds places sums
     → (firsts seconds : List ℕ) → length firsts ≡ n → length seconds ≡ n → LentBuffer count ts vs ds places firsts seconds sums

@@ -1,3 +1,4 @@
+pub mod Columns
 pub mod Under
 pub mod Loading
 pub mod Meeting

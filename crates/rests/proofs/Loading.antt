@@ -1,6 +1,5 @@
 -- The loop that loads the slots' parts in a row.
 --
--- same-edits: edits in columns, values first and times first. edits-row: columns in two parts
 -- slot-asks, slot-loaded: what the load of a part asks, and what it leaves
 -- Loading: the slots before b are loaded, and end at k. loading-start, loading-more, loading-end: the loop keeps that. here-*, bounds, part-asks: what a turn asks
 use Prim.Native.Nat.{ℕ, _+_, _-_, _*_, _<_, _≤_, _^_}
@@ -13,18 +12,16 @@ use lib.ListN.{length, take, drop, getD, set, replicate, length-append, length-t
 use lib.Seq.{length-take-le, take-all, take-at, take-append-add}
 use Rattle.grid.proofs.Sizes.{sizing-one, mass, mass-one}
 use Rattle.grid.proofs.Loops.{drop-more}
-use Rattle.grid.proofs.Operations.{no-length}
 use Rattle.rules.specs.Histories.{Edit, loadEdits}
 use Rattle.rules.proofs.Wave.{load-mass}
 use Rattle.consolidation.specs.Entries as columns
 use Rattle.consolidation.specs.Entries.{mostMass}
 use Rattle.edits.specs.Edits as timed
 use Rattle.edits.specs.Buffers.{noEdit, LoadsEdits, LentLoad}
-use Rattle.edits.proofs.Edits.{length-edits}
 use Rattle.edits.proofs.Masses.{mass-column}
 use Rattle.backends.specs.Columns.{Column}
 use Rattle.backends.specs.Crossing.{part, ends, whole}
-use Rattle.backends.proofs.Columns.{less, Writing, writing-start, writing-more, writing-end}
+use Rattle.backends.proofs.Columns.{Writing, writing-start, writing-more, writing-end}
 use Rattle.backends.proofs.Segments.{part-length, ends-next}
 use Rattle.moments.specs.Present.{edits}
 use Rattle.moments.specs.Window.{partsOf, Apart}
@@ -32,32 +29,12 @@ use Rattle.moments.proofs.Showing.{part-edits, edits-length, apart-next, apart-
 use Rattle.rounds.specs.Merges.{endOf}
 use Rattle.correcting.specs.Back.{Holds}
 use Rattle.correcting.proofs.InRow.{holds-segments, holds-cut, holds-end}
+use Rattle.rests.proofs.Columns.{edits-both, edits-long, edits-append}
 use Rattle.rests.specs.Parts.{LoadsPart, LoadedPart}
 use Rattle.rests.specs.Rests.{loadedAt, Loads, Loaded}
 use Rattle.rests.proofs.Under.{loaded-timely}
 
 -- ---- edits in columns
-same-edits : (vs ts : List ℕ) (ds : List ℤ) → timed.edits ts vs ds ≡ edits vs ts ds
-unfolding edits timed.edits
-same-edits [] [] ds = refl
-same-edits [] (t ∷ ts) ds = refl
-same-edits (v ∷ vs) [] ds = refl
-same-edits (v ∷ vs) (t ∷ ts) [] = refl
-same-edits (v ∷ vs) (t ∷ ts) (d ∷ ds) = ap (λ l. ((t, v), d) ∷ l) (same-edits vs ts ds)
-
-edits-row : (vs vs′ ts ts′ : List ℕ) (ds ds′ : List ℤ) → length ts ≡ length vs → length ds ≡ length vs
-    → edits (vs ++ vs′) (ts ++ ts′) (ds ++ ds′) ≡ edits vs ts ds ++ edits vs′ ts′ ds′
-unfolding edits
-edits-row [] vs′ [] ts′ [] ds′ a b = refl
-edits-row [] vs′ [] ts′ (d ∷ ds) ds′ a b = no-length (length ds) b
-edits-row [] vs′ (t ∷ ts) ts′ ds ds′ a b = no-length (length ts) a
-edits-row (v ∷ vs) vs′ [] ts′ ds ds′ a b = no-length (length vs) (sym a)
-edits-row (v ∷ vs) vs′ (t ∷ ts) ts′ [] ds′ a b = no-length (length vs) (sym b)
-edits-row (v ∷ vs) vs′ (t ∷ ts) ts′ (d ∷ ds) ds′ a b = ap (λ l. ((t, v), d) ∷ l) (edits-row vs vs′ ts ts′ ds ds′ (less a) (less b))
-
-edits-long : (vs ts : List ℕ) (ds : List ℤ) → length ts ≡ length vs → length ds ≡ length vs → length (edits vs ts ds) ≡ length vs
-edits-long vs ts ds a b = ap length (sym (same-edits vs ts ds)) ∙ length-edits ts vs ds (record { values = sym a; diffs = b ∙ sym a }) ∙ a
-
 -- ---- one part
 -- a column whose end came back as x
 put-back : {A : Type 0} (k : ℕ) (l x : List A) → take k l ++ (x ++ drop (length l - k) (drop k l)) ≡ take k l ++ x
@@ -86,7 +63,7 @@ module _ {vs ts : List ℕ} {ds : List ℤ} {k : ℕ} {rv rt : List ℕ} {rd : L
       let nv : length (part k (length rv) rv) ≡ length rv - k = part-length k (length rv) rv (omega arith) (omega arith) in
       let nt : length (part k (length rt) rt) ≡ length rt - k = part-length k (length rt) rt (omega arith) (omega arith) in
       let nd : length (part k (length rd) rd) ≡ length rd - k = part-length k (length rd) rd (omega arith) (omega arith) in
-      let e : columns.mass ds ≡ mass natAbs (edits vs ts ds) = mass-column ts vs ds (record { values = sym p; diffs = q ∙ sym p }) ∙ ap (mass natAbs) (same-edits vs ts ds) in
+      let e : columns.mass ds ≡ mass natAbs (edits vs ts ds) = mass-column ts vs ds (record { values = sym p; diffs = q ∙ sym p }) ∙ ap (mass natAbs) (edits-both ts vs ds) in
       let b : mass natAbs (edits vs ts ds) ≤ mostMass = a .light in
       let rj : length vs ≤ length joins = a .room-j in
       let rp : length vs ≤ length places = a .room-p in
@@ -111,18 +88,18 @@ module _ {vs ts : List ℕ} {ds : List ℤ} {k : ℕ} {rv rt : List ℕ} {rd : L
   old-long = let r : k + length vs ≤ length rv = a .room in edits-long (take k rv) (take k rt) (take k rd) even-t even-d ∙ length-take-le k rv (omega arith)
 
   front : edits rv rt rd ≡ edits (take k rv) (take k rt) (take k rd) ++ edits (drop k rv) (drop k rt) (drop k rd)
-  front = (λ i. edits (sym (take-append-drop k rv) i) (sym (take-append-drop k rt) i) (sym (take-append-drop k rd) i)) ∙ edits-row (take k rv) (drop k rv) (take k rt) (drop k rt) (take k rd) (drop k rd) even-t even-d
+  front = (λ i. edits (sym (take-append-drop k rv) i) (sym (take-append-drop k rt) i) (sym (take-append-drop k rd) i)) ∙ edits-append (take k rv) (take k rt) (take k rd) (drop k rv) (drop k rt) (drop k rd) even-t even-d
 
   pub slot-loaded : {m : ℕ} (xt xv : List ℕ) (xd : List ℤ) {es : List Edit} {joins′ places′ : List ℕ} {n : ℕ}
       → LoadsEdits (some m) ts vs ds es (timed.edits xt xv xd) joins joins′ places places′ n
       → LoadedPart m vs ts ds k rv rt rd (take k rv ++ (xv ++ drop (length rv - k) (drop k rv))) (take k rt ++ (xt ++ drop (length rt - k) (drop k rt))) (take k rd ++ (xd ++ drop (length rd - k) (drop k rd))) (k + n)
   slot-loaded {m} xt xv xd {n = n} l =
       let w : List Edit = loadEdits (some m) (edits vs ts ds) in
-      let e : loadEdits (some m) (timed.edits ts vs ds) ≡ w = ap (loadEdits (some m)) (same-edits vs ts ds) in
-      let new : take n (edits xv xt xd) ≡ w = ap (take n) (sym (same-edits xv xt xd)) ∙ l .loaded ∙ e in
+      let e : loadEdits (some m) (timed.edits ts vs ds) ≡ w = ap (loadEdits (some m)) (edits-both ts vs ds) in
+      let new : take n (edits xv xt xd) ≡ w = ap (take n) (sym (edits-both xt xv xd)) ∙ l .loaded ∙ e in
       record {
         end = ap (λ z. k + z) (loaded-count l ∙ ap length e);
-        row = ap (take (k + n)) ((λ i. edits (put-back k rv xv i) (put-back k rt xt i) (put-back k rd xd i)) ∙ edits-row (take k rv) xv (take k rt) xt (take k rd) xd even-t even-d)
+        row = ap (take (k + n)) ((λ i. edits (put-back k rv xv i) (put-back k rt xt i) (put-back k rd xd i)) ∙ edits-append (take k rv) (take k rt) (take k rd) xv xt xd even-t even-d)
             ∙ ap (λ z. take (z + n) (old ++ edits xv xt xd)) (sym old-long) ∙ take-append-add old (edits xv xt xd) n ∙ ap (λ z. old ++ z) new
             ∙ ap (λ z. z ++ w) (sym (ap (take k) front ∙ take-at old (edits (drop k rv) (drop k rt) (drop k rd)) k old-long));
       }
