@@ -5,6 +5,10 @@ extern "C" {
     pub fn daniskol_diffs_size() -> usize;
     pub fn daniskol_moments_size() -> usize;
     pub fn daniskol_column_size() -> usize;
+    pub fn daniskol_text_size() -> usize;
+
+    // Returns how many bytes of the reply were written: none where `text` is shorter than the longest reply.
+    pub fn daniskol_answer(request: *const u8, request_len: usize, text: *mut u8, text_len: usize) -> usize;
 
     // Returns the status. `counts` receives status, crossings, and how many tiles, corrections, pending entries and frontier times there are.
     pub fn daniskol_retire(

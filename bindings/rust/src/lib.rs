@@ -17,6 +17,8 @@
 //! assert_eq!(answer.fixes[2].time, Time::new(1, 1));
 //! ```
 //!
+//! [`answer`] is the line program's job as a function: lines of a request in, lines of the reply out.
+//!
 //! # Where a hall calls it
 //!
 //! `ReduceTactic::retire` of `differential_dataflow::operators::reduce` is the seam. An implementation reads its batches' cursors into three runs
@@ -143,6 +145,22 @@ impl fmt::Display for Refusal {
 }
 
 impl std::error::Error for Refusal {}
+
+/// What the line program prints for the bytes of a request, whatever they are. All memory of its call is local, so it runs on a stack of its own.
+pub fn answer(request: &[u8]) -> Vec<u8> {
+    const STACK: usize = 4 << 20;
+    let printed = || {
+        // The text is as long as the longest reply; both pointers are live slices' with their lengths.
+        let mut text = vec![0; unsafe { ffi::daniskol_text_size() }];
+        let n = unsafe { ffi::daniskol_answer(request.as_ptr(), request.len(), text.as_mut_ptr(), text.len()) };
+        text.truncate(n);
+        text
+    };
+    std::thread::scope(|s| {
+        let call = std::thread::Builder::new().stack_size(STACK).spawn_scoped(s, printed);
+        call.expect("a thread for the call").join().expect("the call does not panic")
+    })
+}
 
 // Result memory: where each column starts (document: "Result memory holds …").
 const COLUMN: usize = 4096;

@@ -80,3 +80,13 @@ fn windows_of_any_width_give_the_same_corrections() {
     assert_eq!(answers[0], answers[2]);
     assert_eq!(answers[0].fixes.len(), 800);
 }
+
+// The line form through the boundary: replies to a request, to a bad line and to no bytes at all.
+#[test]
+fn lines_are_answered_as_the_program_answers_them() {
+    let example = |name: &str| std::fs::read(format!("{}/../../examples/{name}", env!("CARGO_MANIFEST_DIR"))).unwrap();
+    for name in ["listing", "waiting", "bad-line"] {
+        assert_eq!(daniskol::answer(&example(&format!("{name}.req"))), example(&format!("{name}.ans")));
+    }
+    assert_eq!(daniskol::answer(b""), b"status=20\nline=1\nend=\n");
+}

@@ -1,16 +1,19 @@
 -- The call as other languages make it.
 --
 -- written: six numbers written one after another. export-short, export-long: what the call says with no room for counts, and with it
+-- print-short, print-long: what is printed with no room for the longest reply, and with it
 use Prim.Native.Nat.{ℕ, _≤_, _<_}
 use native.Mathlib.Omega.{arith}
 use mathlib.Core.List.{List, [], _∷_, _++_}
 use mathlib.Core.Path.{_≡_, refl}
 use lib.ListN.{length, drop, set}
 use Rattle.rules.specs.Memory.{Memory, Lent}
+use Rattle.form.proofs.Room.{mostText}
 use Rattle.demands.specs.Answers.{Retires}
 use Rattle.demands.specs.Lending.{sizes}
 use Rattle.answers.specs.declared.Outcome.{Outcome}
-use Rattle.exports.specs.Exported.{counted, Told, Untouched, Exported}
+use Rattle.answering.specs.Replied.{Replied}
+use Rattle.exports.specs.Exported.{counted, Told, Untouched, Exported, Printed}
 
 pub written : (o : Outcome) (l : List ℕ) → 6 ≤ length l
     → set (set (set (set (set (set l 0 (o .status)) 1 (o .crossings)) 2 (o .tiles)) 3 (o .fixes)) 4 (o .pending)) 5 (o .frontier) ≡ counted o ++ drop 6 l
@@ -28,3 +31,9 @@ export-short l counts h = record { short = λ _. record { refused = refl; same-c
 
 pub export-long : {l : Lent} {counts counts′ : List ℕ} {m : Memory} {o : Outcome} → 6 ≤ length counts → Retires sizes l o m → counts′ ≡ counted o ++ drop 6 counts → Exported l counts counts′ m (o .status)
 export-long {o = o} h r c = record { short = λ k. absurd (omega (arith, h, k)); long = λ _. record { outcome = o; retires = r; status-is = refl; counts-are = c } }
+
+pub print-short : (text out : List ℕ) → length out < mostText → Printed text out out 0
+print-short text out h = record { short = λ _. record { none = refl; same = refl }; long = λ k. absurd (omega (arith, h, k)) }
+
+pub print-long : {text out out′ : List ℕ} {n : ℕ} → mostText ≤ length out → Replied text out out′ n → Printed text out out′ n
+print-long h r = record { short = λ k. absurd (omega (arith, h, k)); long = λ _. r }

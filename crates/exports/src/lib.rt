@@ -1,4 +1,6 @@
-// The call for programs in Rust and C: numbers and slices only. A slice crosses as its address and its length.
+// The call for programs in Rust and C, and the line form: numbers and slices only. A slice crosses as its address and its length.
+use answering::TEXT_SIZE;
+use answering::answer;
 use answers::Outcome;
 use demands::COLUMN_SIZE;
 use demands::MOMENTS_SIZE;
@@ -10,10 +12,12 @@ ghost use Prim.Native.Nat.{_≤_};
 ghost use lib.ListN.{length, drop};
 ghost use mathlib.Core.List.{_++_};
 ghost use Rattle.rules.specs.Memory.{numbersSize};
+ghost use Rattle.form.specs.Show.{reply};
+ghost use Rattle.form.proofs.Room.{mostText};
 ghost use Rattle.grid.specs.Records.{mostRecords};
 ghost use Rattle.checks.specs.Checks.{columns};
 ghost use Rattle.demands.specs.Lending.{memory, lent};
-ghost use Rattle.exports.specs.Exported.{counted, Exported};
+ghost use Rattle.exports.specs.Exported.{counted, Exported, Printed};
 
 // How many numbers and how many diffs result memory has.
 #[no_mangle]
@@ -131,4 +135,24 @@ pub extern "C" fn daniskol_retire(
     );
     tell(r, counts);
     r.status
+}
+
+// How many bytes the longest reply has.
+#[no_mangle]
+pub extern "C" fn daniskol_text_size() -> usize
+    ensures { λ r. ⌜ r ≡ mostText ⌝ }
+{
+    TEXT_SIZE
+}
+
+// Reads the lines of a request, makes the call in memory of its own, and writes the lines of its reply. Returns how many bytes these have; where the text
+// may be too long for out, none is written.
+#[no_mangle]
+pub extern "C" fn daniskol_answer(request: &[u8], out: &mut [u8]) -> usize
+    ensures { λ n. ⌜ Printed (reply (now (request .entry))) (now (out .entry)) (now (out .exit)) n ⌝ }
+{
+    if out.len() < TEXT_SIZE {
+        return 0;
+    }
+    answer(request, out)
 }
