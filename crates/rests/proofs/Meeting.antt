@@ -1,8 +1,8 @@
 -- The loops that take the meets of moments.
 --
 -- Halving: the parts of the meet of the times before i are a and b. halving-none, halving-start, halving-more, halving-end: the loop keeps that
--- Remaining: the meets of the slots before b are taken, and the next slot's moments begin at f. remaining-start, remaining-next, remaining-some,
--- remaining-none, remaining-end: the loop keeps that. here-met, bounds: what a turn asks
+-- Remaining: the meets of the slots before b are taken, and the next slot's moments begin at f. remaining-start, remaining-some, remaining-none,
+-- remaining-end: the loop keeps that. here-met, bounds: what a turn asks
 use Prim.Native.Nat.{ℕ, zero, suc, _+_, _-_, _<_, _≤_, min}
 use native.Mathlib.Omega.{arith}
 use mathlib.Core.List.{List, [], _∷_}
@@ -99,7 +99,7 @@ module _ {j : ℕ} {moments es met₀ met : List ℕ} {b f : ℕ} (m : Remaining
   pub bounds : (f ≤ e) × (e ≤ length moments)
   bounds = let q = cut-next es b h (m .cut) in (q .0, q .1 .0)
 
-  pub remaining-next : (r : ℕ) → meetOf (drop j (part f e moments)) ≡ r → Remaining j moments es met₀ (set met b r) (b + 1) e
+  remaining-next : (r : ℕ) → meetOf (drop j (part f e moments)) ≡ r → Remaining j moments es met₀ (set met b r) (b + 1) e
   remaining-next r p = record {
     asks = m .asks;
     bn = omega arith;

@@ -1,23 +1,18 @@
 -- The meets of moments, where the meets of the later ones are known.
 --
 -- between-far, between-near, between-none: the meet of one slot's moments from j on, where k is among them, where only j is, where neither is
--- Nearing: the meets of the slots before b are taken, and the far meets from b on are those of the slots that are left. nearing-start,
--- nearing-more: the loop keeps that. here-far, far-asks: what a turn asks
-use Prim.Native.Nat.{ℕ, suc, _+_, _-_, _<_, _≤_}
+use Prim.Native.Nat.{ℕ, _+_, _-_, _<_, _≤_}
 use native.Mathlib.Omega.{arith}
 use mathlib.Core.List.{List, [], _∷_, _++_}
 use mathlib.Core.Path.{_≡_, sym, _∙_, ap}
-use lib.ListN.{length, drop, getD, set, length-drop, drop-of-length-le, take-append-drop}
+use lib.ListN.{length, drop, length-drop, drop-of-length-le, take-append-drop}
 use lib.Seq.{take-all, drop-drop}
 use Rattle.grid.specs.Times.{meet, meetOnto, meets}
 use Rattle.grid.proofs.Times.{ext, hi-meet, lo-meet}
-use Rattle.grid.proofs.Loops.{drop-more}
-use Rattle.backends.specs.Crossing.{part, segments}
-use Rattle.backends.proofs.Segments.{part-length, segments-next}
-use Rattle.rests.specs.Rests.{meetOf, meetsAt, Between}
-use Rattle.rests.proofs.Meeting.{Remaining, remaining-start, remaining-next}
+use Rattle.backends.specs.Crossing.{part}
+use Rattle.backends.proofs.Segments.{part-length}
+use Rattle.rests.specs.Rests.{meetOf}
 
--- ---- one slot
 meet-comm : (s t : ℕ) → meet s t ≡ meet t s
 meet-comm s t = ext _ _ (simp hi-meet (omega arith)) (simp lo-meet (omega arith))
 
@@ -49,34 +44,3 @@ module _ (j : ℕ) (l : List ℕ) where
   pub between-none : length l ≤ j → 0 ≡ meetOf (drop j l)
   unfolding meetOf
   between-none h = ap meetOf (sym (drop-of-length-le l {i = j} h))
-
--- ---- all slots
-pub record Nearing (j k : ℕ) (moments es far met₀ met : List ℕ) (b f : ℕ) : Type 0 where
-  pub asks : Between j k moments es far met₀
-  pub rest : Remaining j moments es met₀ met b f
-  pub ahead : drop b far ≡ meetsAt k (segments f (drop b es) moments)
-
-pub nearing-start : {j k : ℕ} {moments es far met : List ℕ} → Between j k moments es far met → Nearing j k moments es far met met 0 0
-nearing-start {j} a = record { asks = a; rest = remaining-start j (a .meeting); ahead = a .far-is }
-
-module _ {j k : ℕ} {moments es far met₀ met : List ℕ} {b f : ℕ} (m : Nearing j k moments es far met₀ met b f) (h : b < length es) where
-  abbrev e : ℕ
-  e = getD es b 0
-
-  far-next : drop b far ≡ meetOf (drop k (part f e moments)) ∷ meetsAt k (segments e (drop (b + 1) es) moments)
-  far-next = m .ahead ∙ ap (meetsAt k) (segments-next f es moments b h)
-
-  pub here-far : b < length far
-  here-far =
-      let n : length (drop b far) ≡ suc (length (meetsAt k (segments e (drop (b + 1) es) moments))) = ap length far-next in
-      let d : length (drop b far) ≡ length far - b = length-drop b far in
-      omega arith
-
-  far-split : getD far b 0 ∷ drop (b + 1) far ≡ meetOf (drop k (part f e moments)) ∷ meetsAt k (segments e (drop (b + 1) es) moments)
-  far-split = sym (drop-more far b 0 here-far) ∙ far-next
-
-  pub far-asks : (j < k) × (getD far b 0 ≡ meetOf (drop k (part f e moments)))
-  far-asks = (m .asks .later, ap (λ l. getD l 0 0) far-split)
-
-  pub nearing-more : {r : ℕ} → r ≡ meetOf (drop j (part f e moments)) → Nearing j k moments es far met₀ (set met b r) (b + 1) e
-  nearing-more {r} p = record { asks = m .asks; rest = remaining-next (m .rest) h r (sym p); ahead = ap (drop 1) far-split }

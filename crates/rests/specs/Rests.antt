@@ -5,8 +5,7 @@
 -- loadedAt ms ps: each part, its times joined with the slot's meet, consolidated by (time, value)
 -- meetOf: the meet of a list of times, 0 where there is none. meetsAt j ms: of each slot's moments from the j-th on
 -- Loads: what loading all slots asks. Loaded: what it leaves. Meeting: what taking the meets asks
--- Between: what taking the meets from j on asks, where those from k on are known
-use Prim.Native.Nat.{ℕ, _<_, _≤_}
+use Prim.Native.Nat.{ℕ, _≤_}
 use mathlib.Core.List.{List, [], _∷_, map}
 use mathlib.Core.Option.{none, some}
 use mathlib.Core.Path.{_≡_}
@@ -63,8 +62,3 @@ pub record Meeting (moments mends met : List ℕ) : Type 0 where
   pub cut : Cut (λ m. length m ≤ mostMoments) moments 0 mends
   pub few : length mends ≤ 64
   pub room : length met ≡ length mends
-
-pub record Between (j k : ℕ) (moments mends far met : List ℕ) : Type 0 where
-  pub meeting : Meeting moments mends met
-  pub later : j < k
-  pub far-is : far ≡ meetsAt k (segments 0 mends moments)

@@ -4,7 +4,7 @@ ghost use mathlib.Core.Path.{_≡_};
 ghost use Prim.Native.Nat.{_<_, min};
 ghost use lib.ListN.{drop};
 ghost use Rattle.backends.specs.Crossing.{segments};
-ghost use Rattle.rests.specs.Rests.{meetOf, meetsAt, Meeting, Between};
+ghost use Rattle.rests.specs.Rests.{meetOf, meetsAt, Meeting};
 
 fn smaller(x: u32, y: u32) -> u32
     ensures { λ r. ⌜ r ≡ min x y ⌝ }
@@ -54,7 +54,7 @@ pub fn meets_from(j: usize, moments: &[u64], mends: &[usize], met: &mut [u64])
 }
 
 // The meet of one slot's moments from the j-th on, where those from the k-th on have the meet `far`.
-fn slot_between(j: usize, k: usize, moments: &[u64], far: u64) -> u64
+pub fn slot_between(j: usize, k: usize, moments: &[u64], far: u64) -> u64
     requires { ⌜ (j < k) × (far ≡ meetOf (drop k (now moments))) ⌝ }
     ensures { λ r. ⌜ r ≡ meetOf (drop j (now (moments .entry))) ⌝ }
 {
@@ -66,26 +66,4 @@ fn slot_between(j: usize, k: usize, moments: &[u64], far: u64) -> u64
         return meet_of(&moments[j..]);
     }
     0
-}
-
-// The meet of each slot's moments from the j-th on, where those from the k-th on have the meets `far`.
-pub fn meets_between(
-    j: usize,
-    k: usize,
-    moments: &[u64],
-    mends: &[usize],
-    far: &[u64],
-    met: &mut [u64],
-)
-    requires { ⌜ Between j k (now moments) (now mends) (now far) (now met) ⌝ }
-    ensures { λ _. ⌜ now (met .exit) ≡ meetsAt j (segments 0 (now (mends .entry)) (now (moments .entry))) ⌝ }
-{
-    let mut b = 0;
-    let mut f = 0;
-    while b < mends.len() {
-        let e = mends[b];
-        met[b] = slot_between(j, k, &moments[f..e], far[b]);
-        f = e;
-        b += 1;
-    }
 }
