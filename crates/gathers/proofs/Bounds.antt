@@ -1,14 +1,13 @@
 -- How much the slots hold, and what is ahead of them.
 --
--- length-gathered, length-through, length-past: as many as there are slots
 -- gathered-mass: what is gathered is no larger than what is held and what joins it. moved-mass: what is ahead up to the moments and past them is no larger than what was ahead
 -- gathered-room, gathered-light: what the slots hold afterwards and what is still ahead is no more, and no larger, than what they held and what was ahead
 -- gathered-ascends: what a slot holds afterwards ascends by value. past-ordered: what is still ahead ascends by time
-use Prim.Native.Nat.{ℕ, suc, _+_, _≤_}
+use Prim.Native.Nat.{ℕ, _+_, _≤_}
 use native.Mathlib.Omega.{arith}
 use mathlib.Core.Bool.{true, cond, not, _&&_}
 use mathlib.Core.Logic.{⊎-elim}
-use mathlib.Core.Path.{_≡_, refl, sym, _∙_, ap, subst}
+use mathlib.Core.Path.{_≡_, sym, _∙_, ap, subst}
 use mathlib.Core.List.{List, [], _∷_, _++_, map}
 use mathlib.Core.Option.{some}
 use lib.Dec.{leb, ltb, eqb}
@@ -18,7 +17,7 @@ use borrow.Author.Tests.{le-leb, ltb-true, ltb-false, not-true}
 use Rattle.grid.specs.Lists.{front, past}
 use Rattle.grid.proofs.Tests.{by-test, and-l, or-cases}
 use Rattle.grid.proofs.Lists.{All, nil, cons, all-imp, all-map}
-use Rattle.grid.proofs.Operations.{no-length, map-drop}
+use Rattle.grid.proofs.Operations.{map-drop}
 use Rattle.grid.proofs.Consolidate as consolidate
 use Rattle.grid.proofs.Consolidate.{Canon, canon-consolidate}
 use Rattle.grid.proofs.Sizes.{Sizing, sizing-one, sizing-natAbs, mass, mass-append, mass-one}
@@ -29,32 +28,8 @@ use Rattle.rules.proofs.Order.{front-past}
 use Rattle.rules.proofs.Wave.{advance-mass}
 use Rattle.histories.proofs.Steps.{past-drop}
 use Rattle.backends.specs.Crossing.{whole}
-use Rattle.backends.proofs.Columns.{less}
 use Rattle.rests.specs.Rests.{Timely}
 use Rattle.gathers.specs.Gathered.{Ascends, upTo, throughAt, pastAt, gatheredAt}
-
--- ---- as many as there are slots
-pub length-through : (live ts : List ℕ) (rs : List (List Edit)) → length ts ≡ length live → length rs ≡ length live → length (throughAt live ts rs) ≡ length live
-unfolding throughAt
-length-through [] ts rs a b = refl
-length-through (l ∷ ls) [] rs a b = no-length (length ls) (sym a)
-length-through (l ∷ ls) (t ∷ ts) [] a b = no-length (length ls) (sym b)
-length-through (l ∷ ls) (t ∷ ts) (r ∷ rs) a b = ap suc (length-through ls ts rs (less a) (less b))
-
-pub length-past : (live ts : List ℕ) (rs : List (List Edit)) → length ts ≡ length live → length rs ≡ length live → length (pastAt live ts rs) ≡ length live
-unfolding pastAt
-length-past [] ts rs a b = refl
-length-past (l ∷ ls) [] rs a b = no-length (length ls) (sym a)
-length-past (l ∷ ls) (t ∷ ts) [] a b = no-length (length ls) (sym b)
-length-past (l ∷ ls) (t ∷ ts) (r ∷ rs) a b = ap suc (length-past ls ts rs (less a) (less b))
-
-pub length-gathered : (live ms : List ℕ) (os ss : List (List Edit)) → length ms ≡ length live → length os ≡ length live → length ss ≡ length live → length (gatheredAt live ms os ss) ≡ length live
-unfolding gatheredAt
-length-gathered [] ms os ss a b c = refl
-length-gathered (l ∷ ls) [] os ss a b c = no-length (length ls) (sym a)
-length-gathered (l ∷ ls) (m ∷ ms) [] ss a b c = no-length (length ls) (sym b)
-length-gathered (l ∷ ls) (m ∷ ms) (o ∷ os) [] a b c = no-length (length ls) (sym c)
-length-gathered (l ∷ ls) (m ∷ ms) (o ∷ os) (s ∷ ss) a b c = ap suc (length-gathered ls ms os ss (less a) (less b) (less c))
 
 -- ---- how much they hold
 module _ (size : ℤ → ℕ) (S : Sizing size) where

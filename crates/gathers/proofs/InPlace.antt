@@ -1,186 +1,38 @@
 -- A window's slots, replayed in place.
 --
--- apart-times: parts of edits that ascend by time are parts of times that ascend
--- through-parts, past-parts: the edits ahead up to the ends that were found, and those past them. apart-through, apart-over: they lie apart
--- pass-asks, gather-asks, few-ends, within-all, copy-room, ends-long: what the steps ask. collapsed: what they leave
-use Prim.Native.Nat.{ℕ, suc, _+_, _-_, _≤_}
+-- within-all, copy-asks: what copying back asks. collapsed: what it leaves
+use Prim.Native.Nat.{ℕ, _-_, _≤_}
 use native.Mathlib.Omega.{arith}
-use mathlib.Core.Bool.{Bool, cond}
-use mathlib.Core.Path.{_≡_, refl, sym, _∙_, ap, subst}
-use mathlib.Core.List.{List, [], _∷_, _++_, map}
-use lib.Dec.{leb, eqb}
-use lib.IntN.{ℤ, natAbs}
-use lib.ListN.{length, take, drop, length-take, length-drop, length-map}
-use lib.Seq.{take-take, take-add, drop-drop, drop-at, length-take-le, take-append-seam}
-use Rattle.grid.specs.Lists.{front, past}
-use Rattle.grid.proofs.Tests.{by-test}
-use Rattle.grid.proofs.Operations.{no-length, front-fits, map-take, map-drop}
-use Rattle.grid.proofs.Sizes.{sizing-one, sizing-natAbs, mass, mass-one}
-use Rattle.grid.proofs.Sort.{Sorted, none, more}
-use Rattle.rules.specs.Histories.{Edit, timeOf}
-use Rattle.rules.proofs.Order.{all-front}
-use Rattle.histories.proofs.Steps.{front-take, past-drop}
-use Rattle.consolidation.specs.Entries.{mostMass}
-use Rattle.backends.specs.Columns.{Column}
-use Rattle.backends.specs.Crossing.{part, segments, ends, whole}
-use Rattle.backends.proofs.Columns.{less}
-use Rattle.backends.proofs.Segments.{part-length, length-ends}
+use mathlib.Core.Path.{_≡_, sym, _∙_, ap, subst}
+use mathlib.Core.List.{List, _++_}
+use lib.IntN.{ℤ}
+use lib.ListN.{length, take, drop, length-take}
+use lib.Seq.{take-append-seam}
+use Rattle.rules.specs.Histories.{Edit}
+use Rattle.backends.specs.Crossing.{segments, whole}
 use Rattle.moments.specs.Present.{edits}
-use Rattle.moments.specs.Window.{partsOf, Apart, done, next}
-use Rattle.moments.proofs.Showing.{apart-past}
-use Rattle.moments.proofs.Taking.{front-part, length-segments}
-use Rattle.correcting.specs.Back.{Holds, Room, Copied}
+use Rattle.moments.specs.Window.{partsOf, Apart, momentsAt, livesAt}
+use Rattle.correcting.specs.Back.{Holds}
 use Rattle.correcting.proofs.InRow.{holds-segments, holds-cut}
-use Rattle.correcting.proofs.Laid.{length-parts}
-use Rattle.rests.specs.Rests.{Timely}
-use Rattle.gathers.specs.Gathered.{upTo, throughAt, pastAt, gatheredAt, throughsOf, Passes, Gathers, Gathered, Collapses, Collapsed}
-use Rattle.rests.proofs.Columns.{edits-long, edits-append}
-use Rattle.gathers.proofs.Columns.{edits-times, take-edits}
-use Rattle.gathers.proofs.Bounds.{length-through, length-gathered, moved-mass, gathered-ascends, past-ordered}
+use Rattle.rests.specs.Rests.{Timely, meetsAt}
+use Rattle.rests.proofs.Columns.{edits-append}
+use Rattle.gathers.specs.Gathered.{throughAt, gatheredAt, Collapses, Gathered, Collapsed}
+use Rattle.gathers.proofs.Columns.{take-edits}
+use Rattle.gathers.proofs.Bounds.{gathered-ascends}
+use Rattle.gathers.proofs.Parts.{past-parts, apart-over}
+use Rattle.gathers.proofs.Turns.{long-live, long-ts}
 
--- ---- the front of edits, and of their times
-map-front : (t : ℕ) (l : List Edit) → map timeOf (front (upTo t) l) ≡ front (λ u. leb u t) (map timeOf l)
-map-front t [] = refl
-map-front t (x ∷ l) = by-test (leb (timeOf x) t) (λ e. rw e (ap (λ r. timeOf x ∷ r) (map-front t l))) (λ e. rw e)
+module _ {j k : ℕ} {moments mends far es rv rt : List ℕ} {rd : List ℤ} {ats ue uv ut : List ℕ} {ud : List ℤ} {yv yt : List ℕ} {yd : List ℤ} {places : List ℕ} {sums : List ℤ}
+    (a : Collapses j k moments mends far es rv rt rd ats ue uv ut ud yv yt yd places sums) where
+  abbrev live : List ℕ
+  live = livesAt j (segments 0 mends moments)
 
-sorted-front : {A : Type 0} {le : A → A → Bool} (p : A → Bool) {xs : List A} → Sorted le xs → Sorted le (front p xs)
-sorted-front p none = none
-sorted-front p (more {x = x} h s) = by-test (p x) (λ e. rw e (more (all-front p h) (sorted-front p s))) (λ e. rw e none)
+  abbrev ts : List ℕ
+  ts = momentsAt j (segments 0 mends moments)
 
-front-ordered : (t : ℕ) (l : List Edit) → Timely l → Timely (front (upTo t) l)
-front-ordered t l s = subst (Sorted leb) (sym (map-front t l)) (sorted-front (λ u. leb u t) s)
+  abbrev ms : List ℕ
+  ms = meetsAt j (segments 0 mends moments)
 
-drop-front : {A : Type 0} (n m : ℕ) (l : List A) → n ≤ length l → drop n (take (n + m) l) ≡ take m (drop n l)
-drop-front n m l h = ap (drop n) (take-add n m l) ∙ drop-at (take n l) (take m (drop n l)) n (length-take-le n l h)
-
-module _ (t f e : ℕ) (l : List Edit) (h : f ≤ e) (k : e ≤ length l) where
-  abbrev n : ℕ
-  n = length (front (upTo t) (part f e l))
-
-  n-fits : n ≤ e - f
-  n-fits =
-      let a : n ≤ length (part f e l) = front-fits (upTo t) (part f e l) in
-      let b : length (part f e l) ≡ e - f = part-length f e l h k in
-      omega arith
-
-  front-part-is : part f (f + n) l ≡ front (upTo t) (part f e l)
-  front-part-is =
-      let z : f + n - f ≡ n = omega arith in
-      ap (λ i. take i (drop f l)) z ∙ sym (take-take n (e - f) (drop f l) n-fits) ∙ sym (front-take (upTo t) (part f e l))
-
-  past-part-is : part (f + n) e l ≡ past (upTo t) (part f e l)
-  past-part-is =
-      let b : n ≤ e - f = n-fits in
-      let z : n + (e - (f + n)) ≡ e - f = omega arith in
-      let d : length (drop f l) ≡ length l - f = length-drop f l in
-      sym (past-drop (upTo t) (part f e l) ∙ ap (λ i. drop n (take i (drop f l))) (sym z) ∙ drop-front n (e - (f + n)) (drop f l) (omega arith) ∙ ap (take (e - (f + n))) (drop-drop n f l))
-
--- ---- parts ahead
-module _ (rv rt : List ℕ) (rd : List ℤ) (same-t : length rt ≡ length rv) (same-d : length rd ≡ length rv) where
-  abbrev rest : List Edit
-  rest = edits rv rt rd
-
-  times-part : (f e : ℕ) → map timeOf (part f e rest) ≡ part f e rt
-  times-part f e = map-take timeOf (e - f) (drop f rest) ∙ ap (take (e - f)) (map-drop timeOf f rest ∙ ap (drop f) (edits-times rv rt rd same-t same-d))
-
-  pub apart-times : {k : ℕ} {fs es : List ℕ} → Apart Timely rest k fs es → Apart (Sorted leb) rt k fs es
-  apart-times done = done
-  apart-times (next {f = f} {t = e} p q r s n) =
-      let l : length rest ≡ length rv = edits-long rv rt rd same-t same-d in
-      let m : e ≤ length rt = omega arith in
-      next p q m (subst (Sorted leb) (times-part f e) s) (apart-times n)
-
-  -- where the edits ahead of one slot end, up to its moment
-  module _ (l t f e : ℕ) (q : f ≤ e) (r : e ≤ length rest) where
-    abbrev x : ℕ
-    x = cond (eqb l 1) (f + length (front (λ u. leb u t) (part f e rt))) f
-
-    count-is : f + length (front (λ u. leb u t) (part f e rt)) ≡ f + length (front (upTo t) (part f e rest))
-    count-is = ap (λ i. f + i) (ap (λ i. length (front (λ u. leb u t) i)) (sym (times-part f e)) ∙ ap length (sym (map-front t (part f e rest))) ∙ length-map (front (upTo t) (part f e rest)) timeOf)
-
-    end-within : (f ≤ x) × (x ≤ e)
-    end-within =
-        let c = count-is in
-        let b = n-fits t f e rest q r in
-        by-test (eqb l 1) (λ i. rw i (omega arith, omega arith)) (λ i. rw i (omega arith, q))
-
-    through-is : part f x rest ≡ cond (eqb l 1) (front (upTo t) (part f e rest)) []
-    through-is =
-        by-test (eqb l 1)
-        (λ i. rw i (ap (λ j. part f j rest) count-is ∙ front-part-is t f e rest q r))
-        (λ i. rw i (let z : f - f ≡ 0 = omega arith in ap (λ j. take j (drop f rest)) z))
-
-    past-is : part x e rest ≡ cond (eqb l 1) (past (upTo t) (part f e rest)) (part f e rest)
-    past-is =
-        by-test (eqb l 1)
-        (λ i. rw i (ap (λ j. part j e rest) count-is ∙ past-part-is t f e rest q r))
-        (λ i. rw i refl)
-
-    through-ordered : Timely (part f e rest) → Timely (part f x rest)
-    through-ordered s = subst Timely (sym through-is) (by-test (eqb l 1) (λ i. rw i (front-ordered t (part f e rest) s)) (λ i. rw i none))
-
-    over-ordered : Timely (part f e rest) → Timely (part x e rest)
-    over-ordered s = subst Timely (sym past-is) (by-test (eqb l 1) (λ i. rw i (past-ordered t (part f e rest) s)) (λ i. rw i s))
-
-  pub through-parts : {k : ℕ} {fs es : List ℕ} (live ts : List ℕ) → length live ≡ length fs → length ts ≡ length fs → Apart Timely rest k fs es
-      → partsOf fs (throughsOf live ts fs es rt) rest ≡ throughAt live ts (partsOf fs es rest)
-  unfolding partsOf throughsOf throughAt
-  through-parts [] ts a b done = refl
-  through-parts (l ∷ ls) ts a b done = no-length (length ls) a
-  through-parts [] ts a b (next {fs = fs} p q r s n) = no-length (length fs) (sym a)
-  through-parts (l ∷ ls) [] a b (next {fs = fs} p q r s n) = no-length (length fs) (sym b)
-  through-parts (l ∷ ls) (t ∷ ts) a b (next {f = f} {t = e} p q r s n) =
-      let h = through-is l t f e q r in
-      let i = through-parts ls ts (less a) (less b) n in
-      λ z. h z ∷ i z
-
-  pub past-parts : {k : ℕ} {fs es : List ℕ} (live ts : List ℕ) → length live ≡ length fs → length ts ≡ length fs → Apart Timely rest k fs es
-      → partsOf (throughsOf live ts fs es rt) es rest ≡ pastAt live ts (partsOf fs es rest)
-  unfolding partsOf throughsOf pastAt
-  past-parts [] ts a b done = refl
-  past-parts (l ∷ ls) ts a b done = no-length (length ls) a
-  past-parts [] ts a b (next {fs = fs} p q r s n) = no-length (length fs) (sym a)
-  past-parts (l ∷ ls) [] a b (next {fs = fs} p q r s n) = no-length (length fs) (sym b)
-  past-parts (l ∷ ls) (t ∷ ts) a b (next {f = f} {t = e} p q r s n) =
-      let h = past-is l t f e q r in
-      let i = past-parts ls ts (less a) (less b) n in
-      λ z. h z ∷ i z
-
-  pub apart-through : {k : ℕ} {fs es : List ℕ} (live ts : List ℕ) → length live ≡ length fs → length ts ≡ length fs → Apart Timely rest k fs es
-      → Apart Timely rest k fs (throughsOf live ts fs es rt)
-  unfolding throughsOf
-  apart-through [] ts a b done = done
-  apart-through (l ∷ ls) ts a b done = no-length (length ls) a
-  apart-through [] ts a b (next {fs = fs} p q r s n) = no-length (length fs) (sym a)
-  apart-through (l ∷ ls) [] a b (next {fs = fs} p q r s n) = no-length (length fs) (sym b)
-  apart-through (l ∷ ls) (t ∷ ts) a b (next {f = f} {t = e} p q r s n) =
-      let u : x l t f e q r ≤ e = end-within l t f e q r .1 in
-      let v : x l t f e q r ≤ length rest = omega arith in
-      next p (end-within l t f e q r .0) v (through-ordered l t f e q r s) (apart-past u (apart-through ls ts (less a) (less b) n))
-
-  pub apart-over : {k : ℕ} {fs es : List ℕ} (live ts : List ℕ) → length live ≡ length fs → length ts ≡ length fs → Apart Timely rest k fs es
-      → Apart Timely rest k (throughsOf live ts fs es rt) es
-  unfolding throughsOf
-  apart-over [] ts a b done = done
-  apart-over (l ∷ ls) ts a b done = no-length (length ls) a
-  apart-over [] ts a b (next {fs = fs} p q r s n) = no-length (length fs) (sym a)
-  apart-over (l ∷ ls) [] a b (next {fs = fs} p q r s n) = no-length (length fs) (sym b)
-  apart-over (l ∷ ls) (t ∷ ts) a b (next {k = k} {f = f} {t = e} p q r s n) =
-      let u : f ≤ x l t f e q r = end-within l t f e q r .0 in
-      let v : k ≤ x l t f e q r = omega arith in
-      next v (end-within l t f e q r .1) r (over-ordered l t f e q r s) (apart-over ls ts (less a) (less b) n)
-
-length-throughs : (live ts fs es rt : List ℕ) → length ts ≡ length live → length fs ≡ length live → length es ≡ length live → length (throughsOf live ts fs es rt) ≡ length live
-unfolding throughsOf
-length-throughs [] ts fs es rt a b c = refl
-length-throughs (l ∷ ls) [] fs es rt a b c = no-length (length ls) (sym a)
-length-throughs (l ∷ ls) (t ∷ ts) [] es rt a b c = no-length (length ls) (sym b)
-length-throughs (l ∷ ls) (t ∷ ts) (f ∷ fs) [] rt a b c = no-length (length ls) (sym c)
-length-throughs (l ∷ ls) (t ∷ ts) (f ∷ fs) (e ∷ es) rt a b c = ap suc (length-throughs ls ts fs es rt (less a) (less b) (less c))
-
--- ---- the steps
-module _ {live ts ms es rv rt : List ℕ} {rd : List ℤ} {ats ue uv ut : List ℕ} {ud : List ℤ} {yv yt : List ℕ} {yd : List ℤ} {places : List ℕ} {sums : List ℤ}
-    (a : Collapses live ts ms es rv rt rd ats ue uv ut ud yv yt yd places sums) where
   abbrev after : List Edit
   after = edits rv rt rd
 
@@ -190,147 +42,51 @@ module _ {live ts ms es rv rt : List ℕ} {rd : List ℤ} {ats ue uv ut : List �
   abbrev ahead : List (List Edit)
   ahead = partsOf ats es after
 
-  abbrev tos : List ℕ
-  tos = throughsOf live ts ats es rt
-
   abbrev ss : List (List Edit)
   ss = gatheredAt live ms held (throughAt live ts ahead)
 
-  long-a : length live ≡ length ats
-  long-a = a .same-l ∙ sym (a .same-a)
+  module _ {ats′ ue′ yv′ yt′ : List ℕ} {yd′ : List ℤ} {n : ℕ} (lv : length yv′ ≡ length yv) (lt : length yt′ ≡ length yt) (ld : length yd′ ≡ length yd)
+      (g : Gathered live ts ms es rt held ahead ats ats′ ue′ yv′ yt′ yd′ n) where
+    pub within-all : (n ≤ length yv′) × ((n ≤ length yt′) × (n ≤ length yd′))
+    within-all =
+        let w : n ≤ length yv′ = g .within in
+        let u : length yv ≡ 8192 = a .long-yv in
+        let v : length yt ≡ 8192 = a .long-yt in
+        let x : length yd ≡ 8192 = a .long-yd in
+        (w, (omega arith, omega arith))
 
-  long-t : length ts ≡ length ats
-  long-t = a .same-t ∙ sym (a .same-a)
+    pub copy-asks : (length (take (n - 0) yv′) ≤ length uv) × ((length (take (n - 0) yt′) ≤ length ut) × (length (take (n - 0) yd′) ≤ length ud))
+    copy-asks =
+        let u : length yv ≡ 8192 = a .long-yv in
+        let v : length yt ≡ 8192 = a .long-yt in
+        let x : length yd ≡ 8192 = a .long-yd in
+        let p : length uv ≡ 8192 = a .long-v in
+        let q : length ut ≡ 8192 = a .long-t in
+        let s : length ud ≡ 8192 = a .long-d in
+        (rw length-take (omega arith), (rw length-take (omega arith), rw length-take (omega arith)))
 
-  long-tos : length tos ≡ length ue
-  long-tos = length-throughs live ts ats es rt (a .same-t ∙ sym (a .same-l)) (sym long-a) (a .same-e ∙ sym (a .same-l)) ∙ a .same-l
+    module _ {uv′ ut′ : List ℕ} {ud′ : List ℤ} (cv : uv′ ≡ take (n - 0) yv′ ++ drop (length (take (n - 0) yv′)) uv) (ct : ut′ ≡ take (n - 0) yt′ ++ drop (length (take (n - 0) yt′)) ut)
+        (cd : ud′ ≡ take (n - 0) yd′ ++ drop (length (take (n - 0) yd′)) ud) where
+      copied : edits uv′ ut′ ud′ ≡ whole ss ++ edits (drop (length (take (n - 0) yv′)) uv) (drop (length (take (n - 0) yt′)) ut) (drop (length (take (n - 0) yd′)) ud)
+      copied =
+          let z : n - 0 ≡ n = omega arith in
+          let st : length yt′ ≡ length yv′ = lt ∙ a .long-yt ∙ sym (lv ∙ a .long-yv) in
+          let sd : length yd′ ≡ length yv′ = ld ∙ a .long-yd ∙ sym (lv ∙ a .long-yv) in
+          (λ i. edits (cv i) (ct i) (cd i))
+          ∙ edits-append (take (n - 0) yv′) (take (n - 0) yt′) (take (n - 0) yd′) (drop (length (take (n - 0) yv′)) uv) (drop (length (take (n - 0) yt′)) ut) (drop (length (take (n - 0) yd′)) ud) (simp (length-take, st)) (simp (length-take, sd))
+          ∙ ap (λ l. l ++ edits (drop (length (take (n - 0) yv′)) uv) (drop (length (take (n - 0) yt′)) ut) (drop (length (take (n - 0) yd′)) ud))
+          (sym (take-edits (n - 0) yv′ yt′ yd′) ∙ ap (λ i. take i (edits yv′ yt′ yd′)) z ∙ g .row)
 
-  pub pass-asks : (to : List ℕ) → length to ≡ 64 → Passes live ts ats es rt to
-  pass-asks to n =
-      let f : length ue ≤ 64 = a .few in
-      let l : length live ≡ length ue = a .same-l in
-      record {
-        few = omega arith;
-        same-t = a .same-t ∙ sym l;
-        same-f = sym long-a;
-        same-e = a .same-e ∙ sym l;
-        room = omega arith;
-        apart = apart-times rv rt rd (a .same-rt) (a .same-rd) (a .apart);
-      }
+      holds : Holds ss ue′ uv′ ut′ ud′
+      holds = record { ends-are = g .ends-are; row = ap (take (length (whole ss))) copied ∙ take-append-seam (whole ss) _ }
 
-  pub few-ends : {n : ℕ} → n ≡ 64 → length ue ≤ n
-  few-ends e = let f : length ue ≤ 64 = a .few in omega arith
-
-  through-is-now : partsOf ats tos after ≡ throughAt live ts ahead
-  through-is-now = through-parts rv rt rd (a .same-rt) (a .same-rd) live ts long-a long-t (a .apart)
-
-  module _ {to₀ to : List ℕ} (c : Column to₀ 0 tos to (length live)) where
-    ends-found : take (length ue - 0) to ≡ tos
-    ends-found = ap (λ n. take (n - 0) to) (sym (a .same-l)) ∙ front-part c
-
-    pub ends-long : length ats ≡ length (take (length ue - 0) to)
-    ends-long = a .same-a ∙ sym (ap length ends-found ∙ long-tos)
-
-    pub gather-asks : (ye : List ℕ) → length ye ≡ 64 → Gathers live ms ats (take (length ue - 0) to) rv rt rd ue uv ut ud ye yv yt yd places sums
-    gather-asks ye n =
-        subst (λ (x : List ℕ). Gathers live ms ats x rv rt rd ue uv ut ud ye yv yt yd places sums) (sym ends-found)
-        (let f : length ue ≤ 64 = a .few in
-        let w : length yv ≡ 8192 = a .long-yv in
-        let p : 8192 ≤ length places = a .room-p in
-        let d : 8192 ≤ length sums = a .room-d in
-        record {
-          few = f;
-          same-l = a .same-l;
-          same-m = a .same-m;
-          same-f = a .same-a;
-          same-e = long-tos;
-          same-rt = a .same-rt;
-          same-rd = a .same-rd;
-          same-ut = a .long-t ∙ sym (a .long-v);
-          same-ud = a .long-d ∙ sym (a .long-v);
-          same-yt = a .long-yt ∙ sym (a .long-yv);
-          same-yd = a .long-yd ∙ sym (a .long-yv);
-          apart = apart-through rv rt rd (a .same-rt) (a .same-rd) live ts long-a long-t (a .apart);
-          cut = a .cut;
-          room-e = omega arith;
-          room = room;
-          light = light;
-          short = omega arith;
-          room-p = omega arith;
-          room-d = omega arith;
-        })
-      where
-        room : length (whole held) + length (whole (partsOf ats tos after)) ≤ length yv
-        room =
-            let w : length yv ≡ 8192 = a .long-yv in
-            let r : length (whole held) + length (whole ahead) ≤ 8192 = a .room in
-            let p : length (whole (partsOf ats tos after)) ≡ length (whole (throughAt live ts ahead)) = ap (λ l. length (whole l)) through-is-now in
-            omega (arith, moved-mass (λ d. 1) sizing-one live ts ahead, mass-one (whole (throughAt live ts ahead)), mass-one (whole (pastAt live ts ahead)), mass-one (whole ahead))
-
-        light : mass natAbs (whole held) + mass natAbs (whole (partsOf ats tos after)) ≤ mostMass
-        light =
-            let r : mass natAbs (whole held) + mass natAbs (whole ahead) ≤ mostMass = a .light in
-            let p : mass natAbs (whole (partsOf ats tos after)) ≡ mass natAbs (whole (throughAt live ts ahead)) = ap (λ l. mass natAbs (whole l)) through-is-now in
-            omega (arith, moved-mass natAbs sizing-natAbs live ts ahead)
-
-    module _ {ye yv′ yt′ : List ℕ} {yd′ : List ℤ} {k : ℕ} (lv : length yv′ ≡ length yv) (lt : length yt′ ≡ length yt) (ld : length yd′ ≡ length yd)
-        (g₀ : Gathered (gatheredAt live ms held (partsOf ats (take (length ue - 0) to) after)) ye yv′ yt′ yd′ k) where
-      g : Gathered ss ye yv′ yt′ yd′ k
-      g = subst (λ (x : List (List Edit)). Gathered x ye yv′ yt′ yd′ k) (ap (λ x. gatheredAt live ms held (partsOf ats x after)) ends-found ∙ ap (gatheredAt live ms held) through-is-now) g₀
-
-      long-ss : length ss ≡ length ue
-      long-ss =
-          length-gathered live ms held (throughAt live ts ahead) (a .same-m ∙ sym (a .same-l)) (length-segments 0 ue (edits uv ut ud) ∙ sym (a .same-l))
-          (length-through live ts ahead (a .same-t ∙ sym (a .same-l)) (length-parts ats es after (a .same-e ∙ sym (a .same-a)) ∙ sym long-a))
-          ∙ a .same-l
-
-      ends-laid : take (length ue - 0) ye ≡ ends 0 ss
-      ends-laid = let z : length ue - 0 ≡ length ue = omega arith in ap (λ i. take i ye) (z ∙ sym long-ss) ∙ g .ends-are
-
-      pub within-all : (k ≤ length yv′) × ((k ≤ length yt′) × (k ≤ length yd′))
-      within-all =
-          let w : k ≤ length yv′ = g .within in
-          let u : length yv ≡ 8192 = a .long-yv in
-          let v : length yt ≡ 8192 = a .long-yt in
-          let x : length yd ≡ 8192 = a .long-yd in
-          (w, (omega arith, omega arith))
-
-      pub copy-room : Room (take (length ue - 0) ye) (take (k - 0) yv′) (take (k - 0) yt′) (take (k - 0) yd′) ue uv ut ud
-      copy-room =
-          let u : length yv ≡ 8192 = a .long-yv in
-          let v : length yt ≡ 8192 = a .long-yt in
-          let x : length yd ≡ 8192 = a .long-yd in
-          let p : length uv ≡ 8192 = a .long-v in
-          let q : length ut ≡ 8192 = a .long-t in
-          let s : length ud ≡ 8192 = a .long-d in
+      pub collapsed : Collapsed live ts ms es held ahead after ats′ ue′ uv′ ut′ ud′
+      collapsed =
+          let l : length live ≡ length ats = long-live a ∙ sym (a .same-a) in
+          let t : length ts ≡ length ats = long-ts a ∙ sym (a .same-a) in
           record {
-            same-e = sym (ap length ends-laid ∙ length-ends 0 ss ∙ long-ss);
-            room-v = rw length-take (omega arith);
-            room-t = rw length-take (omega arith);
-            room-d = rw length-take (omega arith);
+            held-is = holds-segments holds;
+            cut = holds-cut holds (gathered-ascends live ms held (throughAt live ts ahead));
+            ahead-is = ap (λ x. partsOf x es after) (g .ats-are) ∙ past-parts rv rt rd (a .same-rt) (a .same-rd) live ts l t (a .apart);
+            apart = subst (λ (x : List ℕ). Apart Timely after 0 x es) (sym (g .ats-are)) (apart-over rv rt rd (a .same-rt) (a .same-rd) live ts l t (a .apart));
           }
-
-      module _ {ue′ uv′ ut′ : List ℕ} {ud′ : List ℤ} (w : Copied (take (length ue - 0) ye) (take (k - 0) yv′) (take (k - 0) yt′) (take (k - 0) yd′) uv ut ud ue′ uv′ ut′ ud′) where
-        copied : edits uv′ ut′ ud′ ≡ whole ss ++ edits (drop (length (take (k - 0) yv′)) uv) (drop (length (take (k - 0) yt′)) ut) (drop (length (take (k - 0) yd′)) ud)
-        copied =
-            let z : k - 0 ≡ k = omega arith in
-            let st : length yt′ ≡ length yv′ = lt ∙ a .long-yt ∙ sym (lv ∙ a .long-yv) in
-            let sd : length yd′ ≡ length yv′ = ld ∙ a .long-yd ∙ sym (lv ∙ a .long-yv) in
-            (λ i. edits (w .values i) (w .times i) (w .diffs i))
-            ∙ edits-append (take (k - 0) yv′) (take (k - 0) yt′) (take (k - 0) yd′) (drop (length (take (k - 0) yv′)) uv) (drop (length (take (k - 0) yt′)) ut) (drop (length (take (k - 0) yd′)) ud) (simp (length-take, st)) (simp (length-take, sd))
-            ∙ ap (λ l. l ++ edits (drop (length (take (k - 0) yv′)) uv) (drop (length (take (k - 0) yt′)) ut) (drop (length (take (k - 0) yd′)) ud))
-            (sym (take-edits (k - 0) yv′ yt′ yd′) ∙ ap (λ i. take i (edits yv′ yt′ yd′)) z ∙ g .row)
-
-        holds : Holds ss ue′ uv′ ut′ ud′
-        holds = record {
-          ends-are = w .ends-are ∙ ends-laid;
-          row = ap (take (length (whole ss))) copied ∙ take-append-seam (whole ss) _;
-        }
-
-        pub collapsed : {ats′ : List ℕ} → ats′ ≡ take (length ue - 0) to → Collapsed live ts ms es held ahead after ats′ ue′ uv′ ut′ ud′
-        collapsed e = record {
-          held-is = holds-segments holds;
-          cut = holds-cut holds (gathered-ascends live ms held (throughAt live ts ahead));
-          ahead-is = ap (λ x. partsOf x es after) (e ∙ ends-found) ∙ past-parts rv rt rd (a .same-rt) (a .same-rd) live ts long-a long-t (a .apart);
-          apart = subst (λ (x : List ℕ). Apart Timely after 0 x es) (sym (e ∙ ends-found)) (apart-over rv rt rd (a .same-rt) (a .same-rd) live ts long-a long-t (a .apart));
-        }

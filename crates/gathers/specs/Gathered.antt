@@ -6,9 +6,9 @@
 -- and those past it
 -- gatheredAt live ms os ss: what each slot holds once the edits ss join what it holds, os
 -- throughsOf: where the edits up to the moment end
--- Passes: what finding that asks. LentPart: what advancing one slot's edits asks. Joins: what gathering one slot asks, Joined: what it leaves.
--- Gathers, Gathered: the same of all slots in a row. Collapses, Collapsed: the same, in place
-use Prim.Native.Nat.{ℕ, _+_, _≤_}
+-- LentPart: what advancing one slot's edits asks. Joins: what gathering one slot asks, Joined: what it leaves
+-- Collapses: what gathering all slots asks, in other columns or in place. Gathered: what it leaves in other columns, Collapsed: in place
+use Prim.Native.Nat.{ℕ, _+_, _<_, _≤_}
 use mathlib.Core.Bool.{Bool, cond}
 use mathlib.Core.List.{List, [], _∷_, _++_, map}
 use mathlib.Core.Option.{some}
@@ -20,13 +20,14 @@ use Rattle.grid.specs.Lists.{front, past}
 use Rattle.grid.proofs.Sizes.{mass}
 use Rattle.grid.proofs.Sort.{Sorted}
 use Rattle.rules.specs.Histories.{Edit, timeOf, valueOf, advanceEdits}
+use Rattle.rules.specs.Discover.{mostMoments}
 use Rattle.consolidation.specs.Entries as columns
 use Rattle.consolidation.specs.Entries.{mostMass}
 use Rattle.edits.specs.Edits.{Alike}
 use Rattle.backends.specs.Crossing.{part, segments, ends, whole, Cut}
 use Rattle.moments.specs.Present.{edits}
 use Rattle.moments.specs.Window.{partsOf, Apart}
-use Rattle.rests.specs.Rests.{Timely}
+use Rattle.rests.specs.Rests.{Timely, meetsAt}
 
 abbrev pub Ascends : List Edit → Type 0
 Ascends es = Sorted leb (map valueOf es)
@@ -60,15 +61,6 @@ throughsOf (l ∷ ls) (t ∷ ts) [] es rt = []
 throughsOf (l ∷ ls) (t ∷ ts) (f ∷ fs) [] rt = []
 throughsOf (l ∷ ls) (t ∷ ts) (f ∷ fs) (e ∷ es) rt = cond (eqb l 1) (f + length (front (λ u. leb u t) (part f e rt))) f ∷ throughsOf ls ts fs es rt
 
--- ---- what is ahead up to the moments
-pub record Passes (live ts fs es rt tos : List ℕ) : Type 0 where
-  pub few : length live ≤ 64
-  pub same-t : length ts ≡ length live
-  pub same-f : length fs ≡ length live
-  pub same-e : length es ≡ length live
-  pub room : length live ≤ length tos
-  pub apart : Apart (Sorted leb) rt 0 fs es
-
 -- ---- one slot
 -- columns of one length, and edits in them whose diffs are small in all
 pub record LentPart (count : ℕ) (ts vs : List ℕ) (ds : List ℤ) (places : List ℕ) (sums : List ℤ) : Type 0 where
@@ -96,42 +88,16 @@ pub record Joined (new : List Edit) (yv₀ yt₀ : List ℕ) (yd₀ : List ℤ) 
   pub within : r ≤ length yv
   pub front-is : take r (edits yv yt yd) ≡ take at (edits yv₀ yt₀ yd₀) ++ new
 
--- ---- gathering into other columns
-pub record Gathers (live ms fs es rv rt : List ℕ) (rd : List ℤ) (ue uv ut : List ℕ) (ud : List ℤ) (ye yv yt : List ℕ) (yd : List ℤ) (places : List ℕ) (sums : List ℤ) : Type 0 where
-  pub few : length ue ≤ 64
-  pub same-l : length live ≡ length ue
-  pub same-m : length ms ≡ length ue
-  pub same-f : length fs ≡ length ue
-  pub same-e : length es ≡ length ue
-  pub same-rt : length rt ≡ length rv
-  pub same-rd : length rd ≡ length rv
-  pub same-ut : length ut ≡ length uv
-  pub same-ud : length ud ≡ length uv
-  pub same-yt : length yt ≡ length yv
-  pub same-yd : length yd ≡ length yv
-  pub apart : Apart Timely (edits rv rt rd) 0 fs es
-  pub cut : Cut Ascends (edits uv ut ud) 0 ue
-  pub room-e : length ue ≤ length ye
-  pub room : length (whole (segments 0 ue (edits uv ut ud))) + length (whole (partsOf fs es (edits rv rt rd))) ≤ length yv
-  pub light : mass natAbs (whole (segments 0 ue (edits uv ut ud))) + mass natAbs (whole (partsOf fs es (edits rv rt rd))) ≤ mostMass
-  pub short : length yv ≤ 8192
-  pub room-p : length yv ≤ length places
-  pub room-d : length yv ≤ length sums
-
-pub record Gathered (ss : List (List Edit)) (ye yv yt : List ℕ) (yd : List ℤ) (r : ℕ) : Type 0 where
-  pub count-is : r ≡ length (whole ss)
-  pub within : r ≤ length yv
-  pub ends-are : take (length ss) ye ≡ ends 0 ss
-  pub row : take r (edits yv yt yd) ≡ whole ss
-
--- ---- in place
-pub record Collapses (live ts ms es rv rt : List ℕ) (rd : List ℤ) (ats ue uv ut : List ℕ) (ud : List ℤ) (yv yt : List ℕ) (yd : List ℤ) (places : List ℕ) (sums : List ℤ) : Type 0 where
-  pub few : length ue ≤ 64
-  pub same-l : length live ≡ length ue
-  pub same-t : length ts ≡ length ue
-  pub same-m : length ms ≡ length ue
-  pub same-e : length es ≡ length ue
-  pub same-a : length ats ≡ length ue
+-- ---- all slots
+-- `far` has the meets of the slots' moments from the k-th on
+pub record Collapses (j k : ℕ) (moments mends far es rv rt : List ℕ) (rd : List ℤ) (ats ue uv ut : List ℕ) (ud : List ℤ) (yv yt : List ℕ) (yd : List ℤ) (places : List ℕ) (sums : List ℤ) : Type 0 where
+  pub few : length mends ≤ 64
+  pub cut-m : Cut (λ m. length m ≤ mostMoments) moments 0 mends
+  pub later : j < k
+  pub far-is : far ≡ meetsAt k (segments 0 mends moments)
+  pub same-e : length es ≡ length mends
+  pub same-a : length ats ≡ length mends
+  pub same-u : length ue ≡ length mends
   pub same-rt : length rt ≡ length rv
   pub same-rd : length rd ≡ length rv
   pub long-v : length uv ≡ 8192
@@ -147,7 +113,13 @@ pub record Collapses (live ts ms es rv rt : List ℕ) (rd : List ℤ) (ats ue uv
   pub room-p : 8192 ≤ length places
   pub room-d : 8192 ≤ length sums
 
--- os, rs: what the slots held, and what was ahead of them
+-- os, rs: what the slots held, and what was ahead of them, from ats₀ on
+pub record Gathered (live ts ms es rt : List ℕ) (os rs : List (List Edit)) (ats₀ ats ue yv yt : List ℕ) (yd : List ℤ) (r : ℕ) : Type 0 where
+  pub ats-are : ats ≡ throughsOf live ts ats₀ es rt
+  pub ends-are : ue ≡ ends 0 (gatheredAt live ms os (throughAt live ts rs))
+  pub within : r ≤ length yv
+  pub row : take r (edits yv yt yd) ≡ whole (gatheredAt live ms os (throughAt live ts rs))
+
 pub record Collapsed (live ts ms es : List ℕ) (os rs : List (List Edit)) (rest : List Edit) (ats ue uv ut : List ℕ) (ud : List ℤ) : Type 0 where
   pub held-is : segments 0 ue (edits uv ut ud) ≡ gatheredAt live ms os (throughAt live ts rs)
   pub cut : Cut Ascends (edits uv ut ud) 0 ue

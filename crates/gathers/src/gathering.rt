@@ -1,5 +1,7 @@
 // Edits that join what a window's slots hold.
 use crate::advancing::advance_part;
+use histories::end_through;
+use rests::slot_between;
 use rounds::append_edits;
 use times::PackedTime;
 ghost use mathlib.Core.List.{_++_};
@@ -7,8 +9,9 @@ ghost use mathlib.Core.Option.{some};
 ghost use Rattle.rules.specs.Histories.{advanceEdits};
 ghost use Rattle.backends.specs.Crossing.{segments};
 ghost use Rattle.moments.specs.Present.{edits};
-ghost use Rattle.moments.specs.Window.{partsOf};
-ghost use Rattle.gathers.specs.Gathered.{gatheredAt, Joins, Joined, Gathers, Gathered};
+ghost use Rattle.moments.specs.Window.{partsOf, momentsAt, livesAt};
+ghost use Rattle.rests.specs.Rests.{meetsAt};
+ghost use Rattle.gathers.specs.Gathered.{Joins, Joined, Collapses, Gathered};
 
 // Appends at `at` the segment (uv, ut, ud) with the edits (sv, st, sd) that join it, advanced by m. What yv, yt and yd hold past it means nothing.
 fn gather_slot(
@@ -44,62 +47,72 @@ fn gather_slot(
     at + r
 }
 
-// Slot b's segment ends at ue[b], and the edits that join it, if it is live, are from from[b] to to[b]. Each is advanced by meets[b], laid in a row, and
-// ends at ye[b].
+// Slot b's moments end at mends[b], and those from the k-th on have the meet far[b]; its segment ends at ue[b], and what is ahead of it is from at[b] to
+// re[b]. Where it has a j-th moment, what is ahead up to there joins it and it is advanced by the meet of the moments from there on; else it holds nothing.
+// The segments are laid in a row, and at and ue are theirs from then on. Returns where the row ends.
 pub fn gather_row(
-    live: &[u64],
-    meets: &[u64],
-    from: &[usize],
-    to: &[usize],
+    j: usize,
+    k: usize,
+    moments: &[u64],
+    mends: &[usize],
+    far: &[u64],
+    re: &[usize],
     rv: &[u64],
     rt: &[u64],
     rd: &[i64],
-    ue: &[usize],
+    at: &mut [usize],
+    ue: &mut [usize],
     uv: &[u64],
     ut: &[u64],
     ud: &[i64],
-    ye: &mut [usize],
     yv: &mut [u64],
     yt: &mut [u64],
     yd: &mut [i64],
     places: &mut [u64],
     sums: &mut [i64],
 ) -> usize
-    requires { ⌜ Gathers (now live) (now meets) (now from) (now to) (now rv) (now rt) (now rd) (now ue) (now uv) (now ut) (now ud) (now ye) (now yv) (now yt) (now yd) (now places) (now sums) ⌝ }
-    ensures { λ r. ⌜ Gathered (gatheredAt (now (live .entry)) (now (meets .entry)) (segments 0 (now (ue .entry)) (edits (now (uv .entry)) (now (ut .entry)) (now (ud .entry)))) (partsOf (now (from .entry)) (now (to .entry)) (edits (now (rv .entry)) (now (rt .entry)) (now (rd .entry))))) (now (ye .exit)) (now (yv .exit)) (now (yt .exit)) (now (yd .exit)) r ⌝ }
+    requires { ⌜ Collapses j k (now moments) (now mends) (now far) (now re) (now rv) (now rt) (now rd) (now at) (now ue) (now uv) (now ut) (now ud) (now yv) (now yt) (now yd) (now places) (now sums) ⌝ }
+    ensures { λ r. ⌜ Gathered (livesAt j (segments 0 (now (mends .entry)) (now (moments .entry)))) (momentsAt j (segments 0 (now (mends .entry)) (now (moments .entry)))) (meetsAt j (segments 0 (now (mends .entry)) (now (moments .entry)))) (now (re .entry)) (now (rt .entry)) (segments 0 (now (ue .entry)) (edits (now (uv .entry)) (now (ut .entry)) (now (ud .entry)))) (partsOf (now (at .entry)) (now (re .entry)) (edits (now (rv .entry)) (now (rt .entry)) (now (rd .entry)))) (now (at .entry)) (now (at .exit)) (now (ue .exit)) (now (yv .exit)) (now (yt .exit)) (now (yd .exit)) r ⌝ }
 {
     let mut b = 0;
     let mut f = 0;
-    let mut k = 0;
-    while b < ue.len() {
+    let mut g = 0;
+    let mut n = 0;
+    while b < mends.len() {
+        let h = mends[b];
         let e = ue[b];
-        if live[b] == 1 {
-            let g = from[b];
-            let h = to[b];
-            let m = PackedTime(meets[b]);
-            k = gather_slot(
+        if j < h - g {
+            let t = PackedTime(moments[g + j]);
+            let m = PackedTime(slot_between(j, k, &moments[g..h], far[b]));
+            let a = at[b];
+            let z = re[b];
+            let to = a + end_through(&rt[a..z], 0, t);
+            n = gather_slot(
                 &uv[f..e],
                 &ut[f..e],
                 &ud[f..e],
-                &rv[g..h],
-                &rt[g..h],
-                &rd[g..h],
+                &rv[a..to],
+                &rt[a..to],
+                &rd[a..to],
                 m,
                 yv,
                 yt,
                 yd,
-                k,
+                n,
                 places,
                 sums,
             );
-            ye[b] = k;
+            at[b] = to;
+            ue[b] = n;
             f = e;
+            g = h;
             b += 1;
         } else {
-            ye[b] = k;
+            ue[b] = n;
             f = e;
+            g = h;
             b += 1;
         }
     }
-    k
+    n
 }

@@ -3,6 +3,5 @@
 mod advancing;
 mod collapsing;
 mod gathering;
-mod passing;
 
 pub use collapsing::collapse_row;

@@ -1,149 +1,203 @@
 use borrow.Author.Needs.{needs}
-use Rattle.gathers.proofs.Row.{part-place, Gathering, gathering-start, in-live, in-meets, in-from, in-to, in-ends, place-fits, bounds-u, bounds-r, joins, gather-live, gather-none, gathering-end}
-use lib.ListN.{length}
+use Rattle.gathers.proofs.Row.{part-place}
+use Rattle.gathers.proofs.Turns.{Collapsing, collapsing-start, place-fits, in-ends, in-ats, in-rests, in-far, in-moments, bounds-m, bounds-u, bounds-a, bounds-r, far-asks, past-fits, slot-asks, collapse-live, collapse-none, collapsing-end}
 use Prim.Native.Nat.{_-_}
+use lib.ListN.{length}
 use Rattle.gathers.proofs.gathering.gather_row.Statement.{statement}
 use Rattle.gathers.proofs.gathering.gather_row.Tie as tie
 use Rattle.gathers.proofs.gathering.gather_row.Reads as reads
 use Rattle.gathers.proofs.gathering.gather_row.Lts as lts
 use Rattle.gathers.proofs.gathering.gather_slot.Reads as gather-slot-reads
+use Rattle.histories.proofs.end_through.Reads as end-through-reads
+use Rattle.rests.proofs.slot_between.Reads as slot-between-reads
 
 abbrev Inv-loop : tie.InvT-loop
-Inv-loop live meets from to rv rt rd ue uv ut ud ye₀ yv₀ yt₀ yd₀ places₀ sums₀ b₀ f₀ k₀ ye yv yt yd places sums b f k =
-    Gathering live meets from to rv rt rd ue uv ut ud ye₀ yv₀ yt₀ yd₀ places₀ sums₀ ye yv yt yd places sums b f k
+Inv-loop j k moments mends far re rv rt rd at₀ ue₀ uv ut ud yv₀ yt₀ yd₀ places₀ sums₀ b₀ f₀ g₀ n₀ at ue yv yt yd places sums b f g n =
+    Collapsing j k moments mends far re rv rt rd at₀ ue₀ uv ut ud yv₀ yt₀ yd₀ places₀ sums₀ at ue yv yt yd places sums b f g n
 
 abbrev μ-loop : tie.MeasureT-loop
-μ-loop live meets from to rv rt rd ue uv ut ud ye₀ yv₀ yt₀ yd₀ places₀ sums₀ b₀ f₀ k₀ ye yv yt yd places sums b f k =
-    length ue - b
+μ-loop j k moments mends far re rv rt rd at₀ ue₀ uv ut ud yv₀ yt₀ yd₀ places₀ sums₀ b₀ f₀ g₀ n₀ at ue yv yt yd places sums b f g n =
+    length mends - b
 
 loop-holds : tie.Need-loop-holds Inv-loop μ-loop
-loop-holds c = gathering-start (c .before .before .before .before .before .before .before .before .before .before .before .before .before .pre)
-
-mul-e : tie.Need-mul-e Inv-loop μ-loop
-mul-e c = search needs
-
-shared-slice-read-e : tie.Need-shared-slice-read-e Inv-loop μ-loop
-shared-slice-read-e c = search needs
-
-mul-if1 : tie.Need-mul-if1 Inv-loop μ-loop
-mul-if1 c = search needs
-
-shared-slice-read-if1 : tie.Need-shared-slice-read-if1 Inv-loop μ-loop
-shared-slice-read-if1 c = in-live (c .before .before .before .loop .inv) (c .before .before .loop-test .taken)
-
-mul-g : tie.Need-mul-g Inv-loop μ-loop
-mul-g c = search needs
-
-shared-slice-read-g : tie.Need-shared-slice-read-g Inv-loop μ-loop
-shared-slice-read-g c = in-from (c .before .before .before .before .before .loop .inv) (c .before .before .before .before .loop-test .taken)
+loop-holds c = collapsing-start (c .before .before .before .before .before .before .before .before .before .before .before .before .before .pre)
 
 mul-h : tie.Need-mul-h Inv-loop μ-loop
 mul-h c = search needs
 
 shared-slice-read-h : tie.Need-shared-slice-read-h Inv-loop μ-loop
-shared-slice-read-h c = in-to (c .before .before .before .before .before .before .loop .inv) (c .before .before .before .before .before .loop-test .taken)
+shared-slice-read-h c = search needs
 
-mul-t31 : tie.Need-mul-t31 Inv-loop μ-loop
-mul-t31 c = search needs
+mul-e : tie.Need-mul-e Inv-loop μ-loop
+mul-e c = record { fits = place-fits (c .before .before .loop .inv) (c .before .loop-test .taken) .0 }
 
-shared-slice-read-t36 : tie.Need-shared-slice-read-t36 Inv-loop μ-loop
-shared-slice-read-t36 c = in-meets (c .before .before .before .before .before .before .before .loop .inv) (c .before .before .before .before .before .before .loop-test .taken)
+slice-read-e : tie.Need-slice-read-e Inv-loop μ-loop
+slice-read-e c = in-ends (c .before .before .before .loop .inv) (c .before .before .loop-test .taken)
+
+sub-if1 : tie.Need-sub-if1 Inv-loop μ-loop
+sub-if1 c = bounds-m (c .before .before .before .loop .inv) (c .before .before .loop-test .taken) .0
+
+add-t36 : tie.Need-add-t36 Inv-loop μ-loop
+add-t36 c = search (needs, in-moments (c .before .before .before .before .loop .inv) (c .before .before .before .loop-test .taken) (c .if1 .taken))
+
+mul-t37 : tie.Need-mul-t37 Inv-loop μ-loop
+mul-t37 c = search (needs, in-moments (c .before .before .before .before .loop .inv) (c .before .before .before .loop-test .taken) (c .if1 .taken))
+
+shared-slice-read-t39 : tie.Need-shared-slice-read-t39 Inv-loop μ-loop
+shared-slice-read-t39 c = in-moments (c .before .before .before .before .before .loop .inv) (c .before .before .before .before .loop-test .taken) (c .before .if1 .taken)
+
+mul-slot-between : tie.Need-mul-slot-between Inv-loop μ-loop
+mul-slot-between c = record { fits = part-place (bounds-m (c .before .before .before .before .before .loop .inv) (c .before .before .before .before .loop-test .taken) .0) (bounds-m (c .before .before .before .before .before .loop .inv) (c .before .before .before .before .loop-test .taken) .1) (c .before .before .before .before .before .before .before .before .before .before .before .before .before .before .before .before .before .before .before .good .1 .1 .0 .1) }
+
+sub-slot-between : tie.Need-sub-slot-between Inv-loop μ-loop
+sub-slot-between c = bounds-m (c .before .before .before .before .before .loop .inv) (c .before .before .before .before .loop-test .taken) .0
+
+part-slot-between-start : tie.Need-part-slot-between-start Inv-loop μ-loop
+part-slot-between-start c = search (needs, bounds-m (c .before .before .before .before .before .loop .inv) (c .before .before .before .before .loop-test .taken) .0, bounds-m (c .before .before .before .before .before .loop .inv) (c .before .before .before .before .loop-test .taken) .1)
+
+part-slot-between-end : tie.Need-part-slot-between-end Inv-loop μ-loop
+part-slot-between-end c = bounds-m (c .before .before .before .before .before .loop .inv) (c .before .before .before .before .loop-test .taken) .1
+
+mul-slot-between-2 : tie.Need-mul-slot-between-2 Inv-loop μ-loop
+mul-slot-between-2 c = record { fits = place-fits (c .before .before .before .before .before .before .loop .inv) (c .before .before .before .before .before .loop-test .taken) .0 }
+
+shared-slice-read-slot-between : tie.Need-shared-slice-read-slot-between Inv-loop μ-loop
+shared-slice-read-slot-between c = in-far (c .before .before .before .before .before .before .before .loop .inv) (c .before .before .before .before .before .before .loop-test .taken)
+
+slot-between-requires : tie.Need-slot-between-requires Inv-loop μ-loop
+slot-between-requires c κs = far-asks (c .before .before .before .before .before .before .before .loop .inv) (c .before .before .before .before .before .before .loop-test .taken)
+
+mul-a : tie.Need-mul-a Inv-loop μ-loop
+mul-a c = record { fits = place-fits (c .before .before .before .before .before .before .before .before .loop .inv) (c .before .before .before .before .before .before .before .loop-test .taken) .0 }
+
+slice-read-a : tie.Need-slice-read-a Inv-loop μ-loop
+slice-read-a c = in-ats (c .before .before .before .before .before .before .before .before .before .loop .inv) (c .before .before .before .before .before .before .before .before .loop-test .taken)
+
+mul-z : tie.Need-mul-z Inv-loop μ-loop
+mul-z c = record { fits = place-fits (c .before .before .before .before .before .before .before .before .before .loop .inv) (c .before .before .before .before .before .before .before .before .loop-test .taken) .0 }
+
+shared-slice-read-z : tie.Need-shared-slice-read-z Inv-loop μ-loop
+shared-slice-read-z c = in-rests (c .before .before .before .before .before .before .before .before .before .before .loop .inv) (c .before .before .before .before .before .before .before .before .before .loop-test .taken)
+
+mul-end-through : tie.Need-mul-end-through Inv-loop μ-loop
+mul-end-through c = record { fits = part-place (bounds-a (c .before .before .before .before .before .before .before .before .before .before .loop .inv) (c .before .before .before .before .before .before .before .before .before .loop-test .taken) .0) (bounds-a (c .before .before .before .before .before .before .before .before .before .before .loop .inv) (c .before .before .before .before .before .before .before .before .before .loop-test .taken) .1) (c .before .before .before .before .before .before .before .before .before .before .before .before .before .before .before .before .before .before .before .before .before .before .before .before .good .1 .1 .1 .1 .1 .1 .1 .0 .1) }
+
+sub-end-through : tie.Need-sub-end-through Inv-loop μ-loop
+sub-end-through c = bounds-a (c .before .before .before .before .before .before .before .before .before .before .loop .inv) (c .before .before .before .before .before .before .before .before .before .loop-test .taken) .0
+
+part-end-through-start : tie.Need-part-end-through-start Inv-loop μ-loop
+part-end-through-start c = search (needs, bounds-a (c .before .before .before .before .before .before .before .before .before .before .loop .inv) (c .before .before .before .before .before .before .before .before .before .loop-test .taken) .0, bounds-a (c .before .before .before .before .before .before .before .before .before .before .loop .inv) (c .before .before .before .before .before .before .before .before .before .loop-test .taken) .1)
+
+part-end-through-end : tie.Need-part-end-through-end Inv-loop μ-loop
+part-end-through-end c = bounds-a (c .before .before .before .before .before .before .before .before .before .before .loop .inv) (c .before .before .before .before .before .before .before .before .before .loop-test .taken) .1
+
+end-through-requires : tie.Need-end-through-requires Inv-loop μ-loop
+end-through-requires c κs = search needs
+
+add-to : tie.Need-add-to Inv-loop μ-loop
+add-to c = record { fits = past-fits (c .before .before .before .before .before .before .before .before .before .before .before .before .loop .inv) (c .before .before .before .before .before .before .before .before .before .before .before .loop-test .taken) (c .before .before .before .before .before .before .before .before .if1 .taken) (c .end-through .ensures) (c .before .before .before .before .before .before .before .before .before .before .before .before .before .before .before .before .before .before .before .before .before .before .before .before .before .before .good .1 .1 .1 .1 .1 .1 .1 .0 .1) }
 
 mul-gather-slot : tie.Need-mul-gather-slot Inv-loop μ-loop
-mul-gather-slot c = record { fits = part-place (bounds-u (c .before .before .before .before .before .before .before .loop .inv) (c .before .before .before .before .before .before .loop-test .taken) .0) (bounds-u (c .before .before .before .before .before .before .before .loop .inv) (c .before .before .before .before .before .before .loop-test .taken) .1 .0) (c .before .before .before .before .before .before .before .before .before .before .before .before .before .before .before .before .before .before .before .before .before .good .1 .1 .1 .1 .1 .1 .1 .1 .0 .1) }
+mul-gather-slot c = record { fits = part-place (bounds-u (c .before .before .before .before .before .before .before .before .before .before .before .before .loop .inv) (c .before .before .before .before .before .before .before .before .before .before .before .loop-test .taken) .0) (bounds-u (c .before .before .before .before .before .before .before .before .before .before .before .before .loop .inv) (c .before .before .before .before .before .before .before .before .before .before .before .loop-test .taken) .1 .0) (c .before .before .before .before .before .before .before .before .before .before .before .before .before .before .before .before .before .before .before .before .before .before .before .before .before .before .good .1 .1 .1 .1 .1 .1 .1 .1 .1 .1 .1 .0 .1) }
 
 sub-gather-slot : tie.Need-sub-gather-slot Inv-loop μ-loop
-sub-gather-slot c = bounds-u (c .before .before .before .before .before .before .before .loop .inv) (c .before .before .before .before .before .before .loop-test .taken) .0
+sub-gather-slot c = bounds-u (c .before .before .before .before .before .before .before .before .before .before .before .before .loop .inv) (c .before .before .before .before .before .before .before .before .before .before .before .loop-test .taken) .0
 
 part-gather-slot-start : tie.Need-part-gather-slot-start Inv-loop μ-loop
-part-gather-slot-start c = search (needs, bounds-u (c .before .before .before .before .before .before .before .loop .inv) (c .before .before .before .before .before .before .loop-test .taken) .0, bounds-u (c .before .before .before .before .before .before .before .loop .inv) (c .before .before .before .before .before .before .loop-test .taken) .1 .0)
+part-gather-slot-start c = search (needs, bounds-u (c .before .before .before .before .before .before .before .before .before .before .before .before .loop .inv) (c .before .before .before .before .before .before .before .before .before .before .before .loop-test .taken) .0, bounds-u (c .before .before .before .before .before .before .before .before .before .before .before .before .loop .inv) (c .before .before .before .before .before .before .before .before .before .before .before .loop-test .taken) .1 .0)
 
 part-gather-slot-end : tie.Need-part-gather-slot-end Inv-loop μ-loop
-part-gather-slot-end c = bounds-u (c .before .before .before .before .before .before .before .loop .inv) (c .before .before .before .before .before .before .loop-test .taken) .1 .0
+part-gather-slot-end c = bounds-u (c .before .before .before .before .before .before .before .before .before .before .before .before .loop .inv) (c .before .before .before .before .before .before .before .before .before .before .before .loop-test .taken) .1 .0
 
 mul-gather-slot-2 : tie.Need-mul-gather-slot-2 Inv-loop μ-loop
-mul-gather-slot-2 c = record { fits = part-place (bounds-u (c .before .before .before .before .before .before .before .before .loop .inv) (c .before .before .before .before .before .before .before .loop-test .taken) .0) (bounds-u (c .before .before .before .before .before .before .before .before .loop .inv) (c .before .before .before .before .before .before .before .loop-test .taken) .1 .1 .0) (c .before .before .before .before .before .before .before .before .before .before .before .before .before .before .before .before .before .before .before .before .before .before .good .1 .1 .1 .1 .1 .1 .1 .1 .1 .0 .1) }
+mul-gather-slot-2 c = record { fits = part-place (bounds-u (c .before .before .before .before .before .before .before .before .before .before .before .before .before .loop .inv) (c .before .before .before .before .before .before .before .before .before .before .before .before .loop-test .taken) .0) (bounds-u (c .before .before .before .before .before .before .before .before .before .before .before .before .before .loop .inv) (c .before .before .before .before .before .before .before .before .before .before .before .before .loop-test .taken) .1 .1 .0) (c .before .before .before .before .before .before .before .before .before .before .before .before .before .before .before .before .before .before .before .before .before .before .before .before .before .before .before .good .1 .1 .1 .1 .1 .1 .1 .1 .1 .1 .1 .1 .0 .1) }
 
 sub-gather-slot-2 : tie.Need-sub-gather-slot-2 Inv-loop μ-loop
-sub-gather-slot-2 c = bounds-u (c .before .before .before .before .before .before .before .before .loop .inv) (c .before .before .before .before .before .before .before .loop-test .taken) .0
+sub-gather-slot-2 c = bounds-u (c .before .before .before .before .before .before .before .before .before .before .before .before .before .loop .inv) (c .before .before .before .before .before .before .before .before .before .before .before .before .loop-test .taken) .0
 
 part-gather-slot-start-2 : tie.Need-part-gather-slot-start-2 Inv-loop μ-loop
-part-gather-slot-start-2 c = search (needs, bounds-u (c .before .before .before .before .before .before .before .before .loop .inv) (c .before .before .before .before .before .before .before .loop-test .taken) .0, bounds-u (c .before .before .before .before .before .before .before .before .loop .inv) (c .before .before .before .before .before .before .before .loop-test .taken) .1 .1 .0)
+part-gather-slot-start-2 c = search (needs, bounds-u (c .before .before .before .before .before .before .before .before .before .before .before .before .before .loop .inv) (c .before .before .before .before .before .before .before .before .before .before .before .before .loop-test .taken) .0, bounds-u (c .before .before .before .before .before .before .before .before .before .before .before .before .before .loop .inv) (c .before .before .before .before .before .before .before .before .before .before .before .before .loop-test .taken) .1 .1 .0)
 
 part-gather-slot-end-2 : tie.Need-part-gather-slot-end-2 Inv-loop μ-loop
-part-gather-slot-end-2 c = bounds-u (c .before .before .before .before .before .before .before .before .loop .inv) (c .before .before .before .before .before .before .before .loop-test .taken) .1 .1 .0
+part-gather-slot-end-2 c = bounds-u (c .before .before .before .before .before .before .before .before .before .before .before .before .before .loop .inv) (c .before .before .before .before .before .before .before .before .before .before .before .before .loop-test .taken) .1 .1 .0
 
 mul-gather-slot-3 : tie.Need-mul-gather-slot-3 Inv-loop μ-loop
-mul-gather-slot-3 c = record { fits = part-place (bounds-u (c .before .before .before .before .before .before .before .before .before .loop .inv) (c .before .before .before .before .before .before .before .before .loop-test .taken) .0) (bounds-u (c .before .before .before .before .before .before .before .before .before .loop .inv) (c .before .before .before .before .before .before .before .before .loop-test .taken) .1 .1 .1) (c .before .before .before .before .before .before .before .before .before .before .before .before .before .before .before .before .before .before .before .before .before .before .before .good .1 .1 .1 .1 .1 .1 .1 .1 .1 .1 .0 .1) }
+mul-gather-slot-3 c = record { fits = part-place (bounds-u (c .before .before .before .before .before .before .before .before .before .before .before .before .before .before .loop .inv) (c .before .before .before .before .before .before .before .before .before .before .before .before .before .loop-test .taken) .0) (bounds-u (c .before .before .before .before .before .before .before .before .before .before .before .before .before .before .loop .inv) (c .before .before .before .before .before .before .before .before .before .before .before .before .before .loop-test .taken) .1 .1 .1) (c .before .before .before .before .before .before .before .before .before .before .before .before .before .before .before .before .before .before .before .before .before .before .before .before .before .before .before .before .good .1 .1 .1 .1 .1 .1 .1 .1 .1 .1 .1 .1 .1 .0 .1) }
 
 sub-gather-slot-3 : tie.Need-sub-gather-slot-3 Inv-loop μ-loop
-sub-gather-slot-3 c = bounds-u (c .before .before .before .before .before .before .before .before .before .loop .inv) (c .before .before .before .before .before .before .before .before .loop-test .taken) .0
+sub-gather-slot-3 c = bounds-u (c .before .before .before .before .before .before .before .before .before .before .before .before .before .before .loop .inv) (c .before .before .before .before .before .before .before .before .before .before .before .before .before .loop-test .taken) .0
 
 part-gather-slot-start-3 : tie.Need-part-gather-slot-start-3 Inv-loop μ-loop
-part-gather-slot-start-3 c = search (needs, bounds-u (c .before .before .before .before .before .before .before .before .before .loop .inv) (c .before .before .before .before .before .before .before .before .loop-test .taken) .0, bounds-u (c .before .before .before .before .before .before .before .before .before .loop .inv) (c .before .before .before .before .before .before .before .before .loop-test .taken) .1 .1 .1)
+part-gather-slot-start-3 c = search (needs, bounds-u (c .before .before .before .before .before .before .before .before .before .before .before .before .before .before .loop .inv) (c .before .before .before .before .before .before .before .before .before .before .before .before .before .loop-test .taken) .0, bounds-u (c .before .before .before .before .before .before .before .before .before .before .before .before .before .before .loop .inv) (c .before .before .before .before .before .before .before .before .before .before .before .before .before .loop-test .taken) .1 .1 .1)
 
 part-gather-slot-end-3 : tie.Need-part-gather-slot-end-3 Inv-loop μ-loop
-part-gather-slot-end-3 c = bounds-u (c .before .before .before .before .before .before .before .before .before .loop .inv) (c .before .before .before .before .before .before .before .before .loop-test .taken) .1 .1 .1
+part-gather-slot-end-3 c = bounds-u (c .before .before .before .before .before .before .before .before .before .before .before .before .before .before .loop .inv) (c .before .before .before .before .before .before .before .before .before .before .before .before .before .loop-test .taken) .1 .1 .1
 
 mul-gather-slot-4 : tie.Need-mul-gather-slot-4 Inv-loop μ-loop
-mul-gather-slot-4 c = record { fits = part-place (bounds-r (c .before .before .before .before .before .before .before .before .before .before .loop .inv) (c .before .before .before .before .before .before .before .before .before .loop-test .taken) .0) (bounds-r (c .before .before .before .before .before .before .before .before .before .before .loop .inv) (c .before .before .before .before .before .before .before .before .before .loop-test .taken) .1 .0) (c .before .before .before .before .before .before .before .before .before .before .before .before .before .before .before .before .before .before .before .before .before .before .before .before .good .1 .1 .1 .1 .0 .1) }
+mul-gather-slot-4 c = record { fits = part-place (bounds-r (c .before .before .before .before .before .before .before .before .before .before .before .before .before .before .before .loop .inv) (c .before .before .before .before .before .before .before .before .before .before .before .before .before .before .loop-test .taken) (c .before .before .before .before .before .before .before .before .before .before .before .if1 .taken) (c .before .before .before .end-through .ensures) (c .before .before .before .before .before .before .before .slot-between .ensures) .0) (bounds-r (c .before .before .before .before .before .before .before .before .before .before .before .before .before .before .before .loop .inv) (c .before .before .before .before .before .before .before .before .before .before .before .before .before .before .loop-test .taken) (c .before .before .before .before .before .before .before .before .before .before .before .if1 .taken) (c .before .before .before .end-through .ensures) (c .before .before .before .before .before .before .before .slot-between .ensures) .1 .0) (c .before .before .before .before .before .before .before .before .before .before .before .before .before .before .before .before .before .before .before .before .before .before .before .before .before .before .before .before .before .good .1 .1 .1 .1 .1 .1 .0 .1) }
 
 sub-gather-slot-4 : tie.Need-sub-gather-slot-4 Inv-loop μ-loop
-sub-gather-slot-4 c = bounds-r (c .before .before .before .before .before .before .before .before .before .before .loop .inv) (c .before .before .before .before .before .before .before .before .before .loop-test .taken) .0
+sub-gather-slot-4 c = bounds-r (c .before .before .before .before .before .before .before .before .before .before .before .before .before .before .before .loop .inv) (c .before .before .before .before .before .before .before .before .before .before .before .before .before .before .loop-test .taken) (c .before .before .before .before .before .before .before .before .before .before .before .if1 .taken) (c .before .before .before .end-through .ensures) (c .before .before .before .before .before .before .before .slot-between .ensures) .0
 
 part-gather-slot-start-4 : tie.Need-part-gather-slot-start-4 Inv-loop μ-loop
-part-gather-slot-start-4 c = search (needs, bounds-r (c .before .before .before .before .before .before .before .before .before .before .loop .inv) (c .before .before .before .before .before .before .before .before .before .loop-test .taken) .0, bounds-r (c .before .before .before .before .before .before .before .before .before .before .loop .inv) (c .before .before .before .before .before .before .before .before .before .loop-test .taken) .1 .0)
+part-gather-slot-start-4 c = search (needs, bounds-r (c .before .before .before .before .before .before .before .before .before .before .before .before .before .before .before .loop .inv) (c .before .before .before .before .before .before .before .before .before .before .before .before .before .before .loop-test .taken) (c .before .before .before .before .before .before .before .before .before .before .before .if1 .taken) (c .before .before .before .end-through .ensures) (c .before .before .before .before .before .before .before .slot-between .ensures) .0, bounds-r (c .before .before .before .before .before .before .before .before .before .before .before .before .before .before .before .loop .inv) (c .before .before .before .before .before .before .before .before .before .before .before .before .before .before .loop-test .taken) (c .before .before .before .before .before .before .before .before .before .before .before .if1 .taken) (c .before .before .before .end-through .ensures) (c .before .before .before .before .before .before .before .slot-between .ensures) .1 .0)
 
 part-gather-slot-end-4 : tie.Need-part-gather-slot-end-4 Inv-loop μ-loop
-part-gather-slot-end-4 c = bounds-r (c .before .before .before .before .before .before .before .before .before .before .loop .inv) (c .before .before .before .before .before .before .before .before .before .loop-test .taken) .1 .0
+part-gather-slot-end-4 c = bounds-r (c .before .before .before .before .before .before .before .before .before .before .before .before .before .before .before .loop .inv) (c .before .before .before .before .before .before .before .before .before .before .before .before .before .before .loop-test .taken) (c .before .before .before .before .before .before .before .before .before .before .before .if1 .taken) (c .before .before .before .end-through .ensures) (c .before .before .before .before .before .before .before .slot-between .ensures) .1 .0
 
 mul-gather-slot-5 : tie.Need-mul-gather-slot-5 Inv-loop μ-loop
-mul-gather-slot-5 c = record { fits = part-place (bounds-r (c .before .before .before .before .before .before .before .before .before .before .before .loop .inv) (c .before .before .before .before .before .before .before .before .before .before .loop-test .taken) .0) (bounds-r (c .before .before .before .before .before .before .before .before .before .before .before .loop .inv) (c .before .before .before .before .before .before .before .before .before .before .loop-test .taken) .1 .1 .0) (c .before .before .before .before .before .before .before .before .before .before .before .before .before .before .before .before .before .before .before .before .before .before .before .before .before .good .1 .1 .1 .1 .1 .0 .1) }
+mul-gather-slot-5 c = record { fits = part-place (bounds-r (c .before .before .before .before .before .before .before .before .before .before .before .before .before .before .before .before .loop .inv) (c .before .before .before .before .before .before .before .before .before .before .before .before .before .before .before .loop-test .taken) (c .before .before .before .before .before .before .before .before .before .before .before .before .if1 .taken) (c .before .before .before .before .end-through .ensures) (c .before .before .before .before .before .before .before .before .slot-between .ensures) .0) (bounds-r (c .before .before .before .before .before .before .before .before .before .before .before .before .before .before .before .before .loop .inv) (c .before .before .before .before .before .before .before .before .before .before .before .before .before .before .before .loop-test .taken) (c .before .before .before .before .before .before .before .before .before .before .before .before .if1 .taken) (c .before .before .before .before .end-through .ensures) (c .before .before .before .before .before .before .before .before .slot-between .ensures) .1 .1 .0) (c .before .before .before .before .before .before .before .before .before .before .before .before .before .before .before .before .before .before .before .before .before .before .before .before .before .before .before .before .before .before .good .1 .1 .1 .1 .1 .1 .1 .0 .1) }
 
 sub-gather-slot-5 : tie.Need-sub-gather-slot-5 Inv-loop μ-loop
-sub-gather-slot-5 c = bounds-r (c .before .before .before .before .before .before .before .before .before .before .before .loop .inv) (c .before .before .before .before .before .before .before .before .before .before .loop-test .taken) .0
+sub-gather-slot-5 c = bounds-r (c .before .before .before .before .before .before .before .before .before .before .before .before .before .before .before .before .loop .inv) (c .before .before .before .before .before .before .before .before .before .before .before .before .before .before .before .loop-test .taken) (c .before .before .before .before .before .before .before .before .before .before .before .before .if1 .taken) (c .before .before .before .before .end-through .ensures) (c .before .before .before .before .before .before .before .before .slot-between .ensures) .0
 
 part-gather-slot-start-5 : tie.Need-part-gather-slot-start-5 Inv-loop μ-loop
-part-gather-slot-start-5 c = search (needs, bounds-r (c .before .before .before .before .before .before .before .before .before .before .before .loop .inv) (c .before .before .before .before .before .before .before .before .before .before .loop-test .taken) .0, bounds-r (c .before .before .before .before .before .before .before .before .before .before .before .loop .inv) (c .before .before .before .before .before .before .before .before .before .before .loop-test .taken) .1 .1 .0)
+part-gather-slot-start-5 c = search (needs, bounds-r (c .before .before .before .before .before .before .before .before .before .before .before .before .before .before .before .before .loop .inv) (c .before .before .before .before .before .before .before .before .before .before .before .before .before .before .before .loop-test .taken) (c .before .before .before .before .before .before .before .before .before .before .before .before .if1 .taken) (c .before .before .before .before .end-through .ensures) (c .before .before .before .before .before .before .before .before .slot-between .ensures) .0, bounds-r (c .before .before .before .before .before .before .before .before .before .before .before .before .before .before .before .before .loop .inv) (c .before .before .before .before .before .before .before .before .before .before .before .before .before .before .before .loop-test .taken) (c .before .before .before .before .before .before .before .before .before .before .before .before .if1 .taken) (c .before .before .before .before .end-through .ensures) (c .before .before .before .before .before .before .before .before .slot-between .ensures) .1 .1 .0)
 
 part-gather-slot-end-5 : tie.Need-part-gather-slot-end-5 Inv-loop μ-loop
-part-gather-slot-end-5 c = bounds-r (c .before .before .before .before .before .before .before .before .before .before .before .loop .inv) (c .before .before .before .before .before .before .before .before .before .before .loop-test .taken) .1 .1 .0
+part-gather-slot-end-5 c = bounds-r (c .before .before .before .before .before .before .before .before .before .before .before .before .before .before .before .before .loop .inv) (c .before .before .before .before .before .before .before .before .before .before .before .before .before .before .before .loop-test .taken) (c .before .before .before .before .before .before .before .before .before .before .before .before .if1 .taken) (c .before .before .before .before .end-through .ensures) (c .before .before .before .before .before .before .before .before .slot-between .ensures) .1 .1 .0
 
 mul-gather-slot-6 : tie.Need-mul-gather-slot-6 Inv-loop μ-loop
-mul-gather-slot-6 c = record { fits = part-place (bounds-r (c .before .before .before .before .before .before .before .before .before .before .before .before .loop .inv) (c .before .before .before .before .before .before .before .before .before .before .before .loop-test .taken) .0) (bounds-r (c .before .before .before .before .before .before .before .before .before .before .before .before .loop .inv) (c .before .before .before .before .before .before .before .before .before .before .before .loop-test .taken) .1 .1 .1) (c .before .before .before .before .before .before .before .before .before .before .before .before .before .before .before .before .before .before .before .before .before .before .before .before .before .before .good .1 .1 .1 .1 .1 .1 .0 .1) }
+mul-gather-slot-6 c = record { fits = part-place (bounds-r (c .before .before .before .before .before .before .before .before .before .before .before .before .before .before .before .before .before .loop .inv) (c .before .before .before .before .before .before .before .before .before .before .before .before .before .before .before .before .loop-test .taken) (c .before .before .before .before .before .before .before .before .before .before .before .before .before .if1 .taken) (c .before .before .before .before .before .end-through .ensures) (c .before .before .before .before .before .before .before .before .before .slot-between .ensures) .0) (bounds-r (c .before .before .before .before .before .before .before .before .before .before .before .before .before .before .before .before .before .loop .inv) (c .before .before .before .before .before .before .before .before .before .before .before .before .before .before .before .before .loop-test .taken) (c .before .before .before .before .before .before .before .before .before .before .before .before .before .if1 .taken) (c .before .before .before .before .before .end-through .ensures) (c .before .before .before .before .before .before .before .before .before .slot-between .ensures) .1 .1 .1) (c .before .before .before .before .before .before .before .before .before .before .before .before .before .before .before .before .before .before .before .before .before .before .before .before .before .before .before .before .before .before .before .good .1 .1 .1 .1 .1 .1 .1 .1 .0 .1) }
 
 sub-gather-slot-6 : tie.Need-sub-gather-slot-6 Inv-loop μ-loop
-sub-gather-slot-6 c = bounds-r (c .before .before .before .before .before .before .before .before .before .before .before .before .loop .inv) (c .before .before .before .before .before .before .before .before .before .before .before .loop-test .taken) .0
+sub-gather-slot-6 c = bounds-r (c .before .before .before .before .before .before .before .before .before .before .before .before .before .before .before .before .before .loop .inv) (c .before .before .before .before .before .before .before .before .before .before .before .before .before .before .before .before .loop-test .taken) (c .before .before .before .before .before .before .before .before .before .before .before .before .before .if1 .taken) (c .before .before .before .before .before .end-through .ensures) (c .before .before .before .before .before .before .before .before .before .slot-between .ensures) .0
 
 part-gather-slot-start-6 : tie.Need-part-gather-slot-start-6 Inv-loop μ-loop
-part-gather-slot-start-6 c = search (needs, bounds-r (c .before .before .before .before .before .before .before .before .before .before .before .before .loop .inv) (c .before .before .before .before .before .before .before .before .before .before .before .loop-test .taken) .0, bounds-r (c .before .before .before .before .before .before .before .before .before .before .before .before .loop .inv) (c .before .before .before .before .before .before .before .before .before .before .before .loop-test .taken) .1 .1 .1)
+part-gather-slot-start-6 c = search (needs, bounds-r (c .before .before .before .before .before .before .before .before .before .before .before .before .before .before .before .before .before .loop .inv) (c .before .before .before .before .before .before .before .before .before .before .before .before .before .before .before .before .loop-test .taken) (c .before .before .before .before .before .before .before .before .before .before .before .before .before .if1 .taken) (c .before .before .before .before .before .end-through .ensures) (c .before .before .before .before .before .before .before .before .before .slot-between .ensures) .0, bounds-r (c .before .before .before .before .before .before .before .before .before .before .before .before .before .before .before .before .before .loop .inv) (c .before .before .before .before .before .before .before .before .before .before .before .before .before .before .before .before .loop-test .taken) (c .before .before .before .before .before .before .before .before .before .before .before .before .before .if1 .taken) (c .before .before .before .before .before .end-through .ensures) (c .before .before .before .before .before .before .before .before .before .slot-between .ensures) .1 .1 .1)
 
 part-gather-slot-end-6 : tie.Need-part-gather-slot-end-6 Inv-loop μ-loop
-part-gather-slot-end-6 c = bounds-r (c .before .before .before .before .before .before .before .before .before .before .before .before .loop .inv) (c .before .before .before .before .before .before .before .before .before .before .before .loop-test .taken) .1 .1 .1
+part-gather-slot-end-6 c = bounds-r (c .before .before .before .before .before .before .before .before .before .before .before .before .before .before .before .before .before .loop .inv) (c .before .before .before .before .before .before .before .before .before .before .before .before .before .before .before .before .loop-test .taken) (c .before .before .before .before .before .before .before .before .before .before .before .before .before .if1 .taken) (c .before .before .before .before .before .end-through .ensures) (c .before .before .before .before .before .before .before .before .before .slot-between .ensures) .1 .1 .1
 
 gather-slot-requires : tie.Need-gather-slot-requires Inv-loop μ-loop
-gather-slot-requires c κs = joins (c .before .before .before .before .before .before .before .before .before .before .before .before .before .before .before .before .before .before .loop .inv) (c .before .before .before .before .before .before .before .before .before .before .before .before .before .before .before .before .before .loop-test .taken)
+gather-slot-requires c κs = slot-asks (c .before .before .before .before .before .before .before .before .before .before .before .before .before .before .before .before .before .before .before .before .before .before .before .loop .inv) (c .before .before .before .before .before .before .before .before .before .before .before .before .before .before .before .before .before .before .before .before .before .before .loop-test .taken) (c .before .before .before .before .before .before .before .before .before .before .before .before .before .before .before .before .before .before .before .if1 .taken) (c .before .before .before .before .before .before .before .before .before .before .before .end-through .ensures) (c .before .before .before .before .before .before .before .before .before .before .before .before .before .before .before .slot-between .ensures)
 
-mul-ye : tie.Need-mul-ye Inv-loop μ-loop
-mul-ye c = record { fits = place-fits (c .before .before .before .before .before .before .before .before .before .before .before .before .before .before .before .before .before .before .before .before .before .before .before .before .before .before .before .loop .inv) (c .before .before .before .before .before .before .before .before .before .before .before .before .before .before .before .before .before .before .before .before .before .before .before .before .before .before .loop-test .taken) .0 }
+mul-at : tie.Need-mul-at Inv-loop μ-loop
+mul-at c = record { fits = place-fits (c .before .before .before .before .before .before .before .before .before .before .before .before .before .before .before .before .before .before .before .before .before .before .before .before .before .before .before .before .before .before .before .before .loop .inv) (c .before .before .before .before .before .before .before .before .before .before .before .before .before .before .before .before .before .before .before .before .before .before .before .before .before .before .before .before .before .before .before .loop-test .taken) .0 }
 
-slice-write-ye : tie.Need-slice-write-ye Inv-loop μ-loop
-slice-write-ye c = in-ends (c .before .before .before .before .before .before .before .before .before .before .before .before .before .before .before .before .before .before .before .before .before .before .before .before .before .before .before .loop .inv) (c .before .before .before .before .before .before .before .before .before .before .before .before .before .before .before .before .before .before .before .before .before .before .before .before .before .before .loop-test .taken)
+slice-write-at : tie.Need-slice-write-at Inv-loop μ-loop
+slice-write-at c = in-ats (c .before .before .before .before .before .before .before .before .before .before .before .before .before .before .before .before .before .before .before .before .before .before .before .before .before .before .before .before .before .before .before .before .loop .inv) (c .before .before .before .before .before .before .before .before .before .before .before .before .before .before .before .before .before .before .before .before .before .before .before .before .before .before .before .before .before .before .before .loop-test .taken)
+
+mul-ue : tie.Need-mul-ue Inv-loop μ-loop
+mul-ue c = record { fits = place-fits (c .before .before .before .before .before .before .before .before .before .before .before .before .before .before .before .before .before .before .before .before .before .before .before .before .before .before .before .before .before .before .before .before .loop .inv) (c .before .before .before .before .before .before .before .before .before .before .before .before .before .before .before .before .before .before .before .before .before .before .before .before .before .before .before .before .before .before .before .loop-test .taken) .0 }
+
+slice-write-ue : tie.Need-slice-write-ue Inv-loop μ-loop
+slice-write-ue c = in-ends (c .before .before .before .before .before .before .before .before .before .before .before .before .before .before .before .before .before .before .before .before .before .before .before .before .before .before .before .before .before .before .before .before .loop .inv) (c .before .before .before .before .before .before .before .before .before .before .before .before .before .before .before .before .before .before .before .before .before .before .before .before .before .before .before .before .before .before .before .loop-test .taken)
 
 add-b : tie.Need-add-b Inv-loop μ-loop
-add-b c = record { fits = place-fits (c .before .before .before .before .before .before .before .before .before .before .before .before .before .before .before .before .before .before .before .before .before .before .before .before .before .before .before .loop .inv) (c .before .before .before .before .before .before .before .before .before .before .before .before .before .before .before .before .before .before .before .before .before .before .before .before .before .before .loop-test .taken) .1 }
+add-b c = record { fits = place-fits (c .before .before .before .before .before .before .before .before .before .before .before .before .before .before .before .before .before .before .before .before .before .before .before .before .before .before .before .before .before .before .before .before .loop .inv) (c .before .before .before .before .before .before .before .before .before .before .before .before .before .before .before .before .before .before .before .before .before .before .before .before .before .before .before .before .before .before .before .loop-test .taken) .1 }
 
 loop-less : tie.Need-loop-less Inv-loop μ-loop
-loop-less c = search (needs, c .before .before .before .before .before .before .before .before .before .before .before .before .before .before .before .before .before .before .before .before .before .before .before .before .before .before .loop-test .taken)
+loop-less c = search (needs, c .before .before .before .before .before .before .before .before .before .before .before .before .before .before .before .before .before .before .before .before .before .before .before .before .before .before .before .before .before .before .before .loop-test .taken)
 
 loop-again : tie.Need-loop-again Inv-loop μ-loop
-loop-again c = gather-live (c .before .before .before .before .before .before .before .before .before .before .before .before .before .before .before .before .before .before .before .before .before .before .before .before .before .before .before .loop .inv) (c .before .before .before .before .before .before .before .before .before .before .before .before .before .before .before .before .before .before .before .before .before .before .before .before .before .before .loop-test .taken) _ _ _ _ _ _ ((c .before .before .before .before .before .before .before .before .gather-slot .kept) .1 .1 .1 .1 .1 .1 .1 .0) ((c .before .before .before .before .before .before .before .before .gather-slot .kept) .1 .1 .1 .1 .1 .1 .1 .1 .0) ((c .before .before .before .before .before .before .before .before .gather-slot .kept) .1 .1 .1 .1 .1 .1 .1 .1 .1 .0) ((c .before .before .before .before .before .before .before .before .gather-slot .kept) .1 .1 .1 .1 .1 .1 .1 .1 .1 .1 .1 .0) ((c .before .before .before .before .before .before .before .before .gather-slot .kept) .1 .1 .1 .1 .1 .1 .1 .1 .1 .1 .1 .1 .0) (c .before .before .before .before .before .before .before .before .before .before .before .before .before .before .before .before .before .before .before .before .before .before .before .if1 .taken) (c .before .before .before .before .before .before .before .before .gather-slot .ensures)
+loop-again c = collapse-live (c .before .before .before .before .before .before .before .before .before .before .before .before .before .before .before .before .before .before .before .before .before .before .before .before .before .before .before .before .before .before .before .before .loop .inv) (c .before .before .before .before .before .before .before .before .before .before .before .before .before .before .before .before .before .before .before .before .before .before .before .before .before .before .before .before .before .before .before .loop-test .taken) (c .before .before .before .before .before .before .before .before .before .before .before .before .before .before .before .before .before .before .before .before .before .before .before .before .before .before .before .before .if1 .taken) (c .before .before .before .before .before .before .before .before .before .before .before .before .before .before .before .before .before .before .before .before .end-through .ensures) (c .before .before .before .before .before .before .before .before .before .before .before .before .before .before .before .before .before .before .before .before .before .before .before .before .slot-between .ensures) _ _ _ _ _ _ ((c .before .before .before .before .before .before .before .before .gather-slot .kept) .1 .1 .1 .1 .1 .1 .1 .0) ((c .before .before .before .before .before .before .before .before .gather-slot .kept) .1 .1 .1 .1 .1 .1 .1 .1 .0) ((c .before .before .before .before .before .before .before .before .gather-slot .kept) .1 .1 .1 .1 .1 .1 .1 .1 .1 .0) ((c .before .before .before .before .before .before .before .before .gather-slot .kept) .1 .1 .1 .1 .1 .1 .1 .1 .1 .1 .1 .0) ((c .before .before .before .before .before .before .before .before .gather-slot .kept) .1 .1 .1 .1 .1 .1 .1 .1 .1 .1 .1 .1 .0) (c .before .before .before .before .before .before .before .before .gather-slot .ensures)
 
-mul-ye-2 : tie.Need-mul-ye-2 Inv-loop μ-loop
-mul-ye-2 c = record { fits = place-fits (c .before .before .before .before .loop .inv) (c .before .before .before .loop-test .taken) .0 }
+mul-ue-2 : tie.Need-mul-ue-2 Inv-loop μ-loop
+mul-ue-2 c = record { fits = place-fits (c .before .before .before .before .loop .inv) (c .before .before .before .loop-test .taken) .0 }
 
-slice-write-ye-2 : tie.Need-slice-write-ye-2 Inv-loop μ-loop
-slice-write-ye-2 c = in-ends (c .before .before .before .before .loop .inv) (c .before .before .before .loop-test .taken)
+slice-write-ue-2 : tie.Need-slice-write-ue-2 Inv-loop μ-loop
+slice-write-ue-2 c = in-ends (c .before .before .before .before .loop .inv) (c .before .before .before .loop-test .taken)
 
 add-b-2 : tie.Need-add-b-2 Inv-loop μ-loop
 add-b-2 c = record { fits = place-fits (c .before .before .before .before .loop .inv) (c .before .before .before .loop-test .taken) .1 }
@@ -152,28 +206,31 @@ loop-less-2 : tie.Need-loop-less-2 Inv-loop μ-loop
 loop-less-2 c = search (needs, c .before .before .before .loop-test .taken)
 
 loop-again-2 : tie.Need-loop-again-2 Inv-loop μ-loop
-loop-again-2 c = gather-none (c .before .before .before .before .loop .inv) (c .before .before .before .loop-test .taken) (c .if1 .left)
+loop-again-2 c = collapse-none (c .before .before .before .before .loop .inv) (c .before .before .before .loop-test .taken) (c .if1 .left)
 
 same-length : tie.Need-same-length Inv-loop μ-loop
-same-length c = c .before .loop .inv .row-ends .same
+same-length c = c .before .loop .inv .passed .row .same
 
 same-length-2 : tie.Need-same-length-2 Inv-loop μ-loop
-same-length-2 c = c .before .loop .inv .same-v
+same-length-2 c = c .before .loop .inv .gathered .row-ends .same
 
 same-length-3 : tie.Need-same-length-3 Inv-loop μ-loop
-same-length-3 c = c .before .loop .inv .same-t
+same-length-3 c = c .before .loop .inv .gathered .same-v
 
 same-length-4 : tie.Need-same-length-4 Inv-loop μ-loop
-same-length-4 c = c .before .loop .inv .same-d
+same-length-4 c = c .before .loop .inv .gathered .same-t
 
 same-length-5 : tie.Need-same-length-5 Inv-loop μ-loop
-same-length-5 c = c .before .loop .inv .same-p
+same-length-5 c = c .before .loop .inv .gathered .same-d
 
 same-length-6 : tie.Need-same-length-6 Inv-loop μ-loop
-same-length-6 c = c .before .loop .inv .same-u
+same-length-6 c = c .before .loop .inv .gathered .same-p
+
+same-length-7 : tie.Need-same-length-7 Inv-loop μ-loop
+same-length-7 c = c .before .loop .inv .gathered .same-u
 
 returns : tie.Need-returns Inv-loop μ-loop
-returns c = gathering-end (c .before .loop .inv) (c .loop-test .left)
+returns c = collapsing-end (c .before .loop .inv) (c .loop-test .left)
 
 pub gather-row-spec : {M : Type 1} → statement M
 gather-row-spec =
@@ -182,16 +239,31 @@ gather-row-spec =
     Inv-loop
     μ-loop
     loop-holds
-    mul-e
-    shared-slice-read-e
-    mul-if1
-    shared-slice-read-if1
-    mul-g
-    shared-slice-read-g
     mul-h
     shared-slice-read-h
-    mul-t31
-    shared-slice-read-t36
+    mul-e
+    slice-read-e
+    sub-if1
+    add-t36
+    mul-t37
+    shared-slice-read-t39
+    mul-slot-between
+    sub-slot-between
+    part-slot-between-start
+    part-slot-between-end
+    mul-slot-between-2
+    shared-slice-read-slot-between
+    slot-between-requires
+    mul-a
+    slice-read-a
+    mul-z
+    shared-slice-read-z
+    mul-end-through
+    sub-end-through
+    part-end-through-start
+    part-end-through-end
+    end-through-requires
+    add-to
     mul-gather-slot
     sub-gather-slot
     part-gather-slot-start
@@ -217,13 +289,15 @@ gather-row-spec =
     part-gather-slot-start-6
     part-gather-slot-end-6
     gather-slot-requires
-    mul-ye
-    slice-write-ye
+    mul-at
+    slice-write-at
+    mul-ue
+    slice-write-ue
     add-b
     loop-less
     loop-again
-    mul-ye-2
-    slice-write-ye-2
+    mul-ue-2
+    slice-write-ue-2
     add-b-2
     loop-less-2
     loop-again-2
@@ -233,4 +307,5 @@ gather-row-spec =
     same-length-4
     same-length-5
     same-length-6
+    same-length-7
     returns)
