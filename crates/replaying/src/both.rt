@@ -1,7 +1,5 @@
 // One side of a window's slots, its input or its output, replayed up to their moments of a round.
 use gathers::collapse_row;
-use moments::round_moments;
-use rests::meets_between;
 ghost use Rattle.backends.specs.Crossing.{segments};
 ghost use Rattle.moments.specs.Window.{momentsAt, livesAt};
 ghost use Rattle.rests.specs.Rests.{meetsAt};
@@ -32,16 +30,12 @@ pub fn catch_up(
     requires { ⌜ CatchesUp j k (now moments) (now mends) (now far) (side (now xe) (now xv) (now xt) (now xd) (now ra) (now re) (now rv) (now rt) (now rd)) (now iv) (now id) (now ov) (now od) (now cv) ⌝ }
     ensures { λ _. ⌜ Caught (livesAt j (segments 0 (now (mends .entry)) (now (moments .entry)))) (momentsAt j (segments 0 (now (mends .entry)) (now (moments .entry)))) (meetsAt j (segments 0 (now (mends .entry)) (now (moments .entry)))) (side (now (xe .entry)) (now (xv .entry)) (now (xt .entry)) (now (xd .entry)) (now (ra .entry)) (now (re .entry)) (now (rv .entry)) (now (rt .entry)) (now (rd .entry))) (side (now (xe .exit)) (now (xv .exit)) (now (xt .exit)) (now (xd .exit)) (now (ra .exit)) (now (re .entry)) (now (rv .entry)) (now (rt .entry)) (now (rd .entry))) ⌝ }
 {
-    let mut live = [0u64; 64];
-    let mut ts = [0u64; 64];
-    let mut met = [0u64; 64];
-    round_moments(j, moments, mends, &mut live, &mut ts);
-    let n = mends.len();
-    meets_between(j, k, moments, mends, far, &mut met[0..n]);
     collapse_row(
-        &live[0..n],
-        &ts[0..n],
-        &met[0..n],
+        j,
+        k,
+        moments,
+        mends,
+        far,
         re,
         rv,
         rt,
