@@ -31,10 +31,11 @@ use Rattle.correcting.proofs.Laid.{length-parts}
 use Rattle.placing.proofs.Parts.{first-length, first-part}
 use Rattle.rests.specs.Rests.{Timely, loadedAt, meetOf, meetsAt, Loads, Loaded}
 use Rattle.rests.proofs.Under.{loaded-length, loaded-room, loaded-light}
-use Rattle.replaying.specs.Replays.{bothAt, Ahead, Replays}
-use Rattle.replaying.proofs.Alike.{UnderAt, under-now}
-use Rattle.replaying.proofs.Turning.{start-rows, start-crossings}
-use Rattle.replaying.proofs.Beginning.{both-none}
+use Rattle.playing.specs.Plays.{bothAt}
+use Rattle.replaying.specs.Replays.{Ahead, Replays}
+use Rattle.playing.proofs.Alike.{UnderAt, under-now}
+use Rattle.playing.proofs.Turning.{start-rows, start-crossings}
+use Rattle.playing.proofs.Beginning.{both-none}
 
 -- ---- parts that lie apart
 module _ (size : ℤ → ℕ) where

@@ -21,7 +21,8 @@ use Rattle.correcting.specs.Settle.{Settles}
 use Rattle.correcting.specs.declared.Settled.{Settled}
 use Rattle.placing.proofs.Parts.{first-length}
 use Rattle.rests.specs.Rests.{Timely}
-use Rattle.replaying.specs.Replays.{Starts, Begins, Ahead}
+use Rattle.playing.specs.Plays.{Starts, Begins}
+use Rattle.replaying.specs.Replays.{Ahead}
 
 all-zeros : (m : ℕ) → All (λ (e : ℕ). e ≡ 0) (replicate m 0)
 all-zeros zero = nil

@@ -1,7 +1,7 @@
 // A window's slots before its first round: nothing is held, all is ahead.
-use crate::all::replay_rounds;
 use correcting::Settled;
 use moments::starts;
+use playing::replay_rounds;
 use rests::load_row;
 use rests::meets_from;
 ghost use Rattle.rules.specs.Discover.{mostMoments};

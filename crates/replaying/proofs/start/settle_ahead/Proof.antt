@@ -8,7 +8,7 @@ use Rattle.replaying.proofs.start.settle_ahead.Tie as tie
 use Rattle.replaying.proofs.start.settle_ahead.Reads as reads
 use Rattle.replaying.proofs.start.settle_ahead.Lts as lts
 use Rattle.moments.proofs.starts.Reads as starts-reads
-use Rattle.replaying.proofs.all.replay_rounds.Reads as replay-rounds-reads
+use Rattle.playing.proofs.replay_rounds.Reads as replay-rounds-reads
 
 -- src/start.rt:55:16
 slice-aggregate-starts : tie.Need-slice-aggregate-starts

@@ -36,11 +36,12 @@ use Rattle.settling.proofs.Spanning.{span-steps, span-all, span-most}
 use Rattle.settling.proofs.SlotLaws.{rows-none, crossings-none, spent-slots}
 use Rattle.rests.specs.Rests.{meetsAt}
 use Rattle.gathers.specs.Gathered.{Ascends}
-use Rattle.replaying.specs.Replays.{Side, side, held, ahead, bothAt, Sized, Sound, Within, TakesTurn, TurnTaken, Renews, Renewed, Begins}
-use Rattle.replaying.proofs.Beginning.{starts-sound, starts-within, starts-both}
-use Rattle.replaying.proofs.Alike.{UnderAt, under-now}
-use Rattle.replaying.proofs.Turning.{heldAt, aheadAt, collapsedAt, entireAt, Turn, turn-rows, turn-crosses, later-rows, later-crossings, turn-length, turn-mass}
-use Rattle.replaying.proofs.Sides.{caught-sound, caught-within, gathered-within}
+use Rattle.sides.specs.Sides.{Side, side, held, ahead, Sized, Sound, Within, TakesTurn, TurnTaken}
+use Rattle.playing.specs.Plays.{bothAt, Renews, Renewed, Begins}
+use Rattle.playing.proofs.Beginning.{starts-sound, starts-within, starts-both}
+use Rattle.playing.proofs.Alike.{UnderAt, under-now}
+use Rattle.playing.proofs.Turning.{heldAt, aheadAt, collapsedAt, entireAt, Turn, turn-rows, turn-crosses, later-rows, later-crossings, turn-length, turn-mass}
+use Rattle.sides.proofs.Sides.{caught-sound, caught-within, gathered-within}
 
 module _ (keys : List ℕ) (ms : List (List ℕ)) (j : ℕ) (I O : Side) where
   abbrev slotsLeft : List Slot

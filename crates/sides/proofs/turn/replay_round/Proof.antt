@@ -1,12 +1,12 @@
 use mathlib.Core.Path.{_∙_}
-use Rattle.replaying.proofs.Rounding.{turn-catches, turn-settles, turn-taken}
+use Rattle.sides.proofs.Rounding.{turn-catches, turn-settles, turn-taken}
 use borrow.Author.Needs.{needs}
-use Rattle.replaying.proofs.turn.replay_round.Statement.{statement}
-use Rattle.replaying.proofs.turn.replay_round.Tie as tie
-use Rattle.replaying.proofs.turn.replay_round.Reads as reads
-use Rattle.replaying.proofs.turn.replay_round.Lts as lts
-use Rattle.replaying.proofs.both.catch_up.Reads as catch-up-reads
-use Rattle.replaying.proofs.turn.settle_turn.Reads as settle-turn-reads
+use Rattle.sides.proofs.turn.replay_round.Statement.{statement}
+use Rattle.sides.proofs.turn.replay_round.Tie as tie
+use Rattle.sides.proofs.turn.replay_round.Reads as reads
+use Rattle.sides.proofs.turn.replay_round.Lts as lts
+use Rattle.sides.proofs.both.catch_up.Reads as catch-up-reads
+use Rattle.sides.proofs.turn.settle_turn.Reads as settle-turn-reads
 
 -- src/turn.rt:143:5
 catch-up-requires : tie.Need-catch-up-requires

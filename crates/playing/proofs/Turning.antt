@@ -45,8 +45,8 @@ use Rattle.rounds.specs.Merges.{byValue, merged}
 use Rattle.rounds.specs.Slots.{Slot, slotsOf, roundNow, rowsIn, rowsNow, crossesNow, outputPast, slotPast, windowRows, windowCrossings, rowsTooLarge}
 use Rattle.rests.specs.Rests.{Timely, loadedAt}
 use Rattle.gathers.specs.Gathered.{upTo, throughAt, pastAt, gatheredAt}
-use Rattle.replaying.specs.Replays.{bothAt}
-use Rattle.replaying.proofs.Alike.{SeenAs, Now, Abreast, done, next, Alike, Alikes, UnderAt, added, past-tally, round-first, now-rows, now-crosses, alike-rows, alike-crossings}
+use Rattle.playing.specs.Plays.{bothAt}
+use Rattle.playing.proofs.Alike.{SeenAs, Now, Abreast, done, next, Alike, Alikes, UnderAt, added, past-tally, round-first, now-rows, now-crosses, alike-rows, alike-crossings}
 
 abbrev pub heldAt : ℕ → List ℕ → List (List ℕ) → List (List Edit) → List (List Edit) → List (List Edit)
 heldAt j mets ms xs rs = gatheredAt (livesAt j ms) mets xs (throughAt (livesAt j ms) (momentsAt j ms) rs)

@@ -2,13 +2,13 @@ use borrow.Author.Needs.{needs}
 use Rattle.settling.proofs.Spanning.{span-steps}
 use mathlib.Core.Path.{sym, _∙_}
 use Prim.Native.Nat.{_-_}
-use Rattle.replaying.proofs.Replaying.{Replaying, replaying-start, replaying-renews, replaying-asks, replaying-fits, replaying-less, replaying-more, replaying-kept, replaying-end}
-use Rattle.replaying.proofs.all.replay_rounds.Statement.{statement}
-use Rattle.replaying.proofs.all.replay_rounds.Tie as tie
-use Rattle.replaying.proofs.all.replay_rounds.Reads as reads
-use Rattle.replaying.proofs.all.replay_rounds.Lts as lts
-use Rattle.replaying.proofs.all.renew_far.Reads as renew-far-reads
-use Rattle.replaying.proofs.turn.replay_round.Reads as replay-round-reads
+use Rattle.playing.proofs.Playing.{Replaying, replaying-start, replaying-renews, replaying-asks, replaying-fits, replaying-less, replaying-more, replaying-kept, replaying-end}
+use Rattle.playing.proofs.all.replay_rounds.Statement.{statement}
+use Rattle.playing.proofs.all.replay_rounds.Tie as tie
+use Rattle.playing.proofs.all.replay_rounds.Reads as reads
+use Rattle.playing.proofs.all.replay_rounds.Lts as lts
+use Rattle.playing.proofs.all.renew_far.Reads as renew-far-reads
+use Rattle.sides.proofs.replay_round.Reads as replay-round-reads
 use Rattle.settling.proofs.goes_on.Reads as goes-on-reads
 use Rattle.settling.proofs.longest.Reads as longest-reads
 

@@ -5,7 +5,7 @@ use moments::starts;
 use settling::round;
 ghost use Rattle.backends.specs.Crossing.{segments};
 ghost use Rattle.moments.specs.Present.{edits};
-ghost use Rattle.replaying.specs.Replays.{side, SettlesTurn, TurnSettled, TakesTurn, TurnTaken};
+ghost use Rattle.sides.specs.Sides.{side, SettlesTurn, TurnSettled, TakesTurn, TurnTaken};
 
 // Round j, once the input is replayed up to the slots' moments and they hold xv, xt and xd of it: the output is replayed so, too, and the round is settled
 // over what the slots hold.

@@ -1,16 +1,16 @@
 // The rounds of a window by a collapsed replay, from the first to the last.
-use crate::turn::replay_round;
 use correcting::Settled;
 use rests::meets_from;
 use settling::goes_on;
 use settling::longest;
+use sides::replay_round;
 ghost use Rattle.rules.specs.Discover.{mostMoments};
 ghost use Rattle.backends.specs.Crossing.{segments};
 ghost use Rattle.moments.specs.Present.{edits};
 ghost use Rattle.moments.specs.Window.{partsOf};
 ghost use Rattle.rounds.specs.Slots.{slotsOf, windowRows, windowCrossings};
 ghost use Rattle.correcting.specs.Settle.{Settles};
-ghost use Rattle.replaying.specs.Replays.{Renews, Renewed, Begins};
+ghost use Rattle.playing.specs.Plays.{Renews, Renewed, Begins};
 
 // Where j has come to k, takes the meets of the moments from a later one on anew. Says which that is.
 fn renew_far(j: usize, k: usize, moments: &[u64], mends: &[usize], far: &mut [u64]) -> usize

@@ -25,8 +25,8 @@ use Rattle.correcting.proofs.InRow.{length-whole, column-within}
 use Rattle.settling.specs.Rounds.{Rounds, Rounded}
 use Rattle.rests.specs.Rests.{meetsAt}
 use Rattle.gathers.specs.Gathered.{Ascends}
-use Rattle.replaying.specs.Replays.{Side, side, Sound, Within, Caught, CatchesUp, SettlesTurn, TurnSettled, TakesTurn, TurnTaken}
-use Rattle.replaying.proofs.Sides.{caught-within}
+use Rattle.sides.specs.Sides.{Side, side, Sound, Within, Caught, CatchesUp, SettlesTurn, TurnSettled, TakesTurn, TurnTaken}
+use Rattle.sides.proofs.Sides.{caught-within}
 
 within-more : {n m : ℕ} {s : Side} → n ≤ m → Within n s → Within m s
 within-more {n} {m} {s} h w = record { room = (let a = w .room in omega arith); light = (let a = w .light in omega arith) }

@@ -1,9 +1,9 @@
-use Rattle.replaying.proofs.Sides.{catches-row}
+use Rattle.sides.proofs.Sides.{catches-row}
 use borrow.Author.Needs.{needs}
-use Rattle.replaying.proofs.both.catch_up.Statement.{statement}
-use Rattle.replaying.proofs.both.catch_up.Tie as tie
-use Rattle.replaying.proofs.both.catch_up.Reads as reads
-use Rattle.replaying.proofs.both.catch_up.Lts as lts
+use Rattle.sides.proofs.both.catch_up.Statement.{statement}
+use Rattle.sides.proofs.both.catch_up.Tie as tie
+use Rattle.sides.proofs.both.catch_up.Reads as reads
+use Rattle.sides.proofs.both.catch_up.Lts as lts
 use Rattle.gathers.proofs.collapse_row.Reads as collapse-row-reads
 
 collapse-row-requires : tie.Need-collapse-row-requires

@@ -20,7 +20,8 @@ use Rattle.moments.specs.Window.{partsOf}
 use Rattle.moments.proofs.Taking.{length-segments}
 use Rattle.correcting.proofs.Laid.{length-parts}
 use Rattle.gathers.specs.Gathered.{Ascends}
-use Rattle.replaying.specs.Replays.{Side, side, held, ahead, bothAt, Sound, Within, Starts}
+use Rattle.sides.specs.Sides.{Side, side, held, ahead, Sound, Within}
+use Rattle.playing.specs.Plays.{bothAt, Starts}
 
 -- ---- nothing is held
 abbrev Zeros : List ℕ → Type 0

@@ -1,8 +1,8 @@
 use borrow.Author.Needs.{needs}
-use Rattle.replaying.proofs.all.renew_far.Statement.{statement}
-use Rattle.replaying.proofs.all.renew_far.Tie as tie
-use Rattle.replaying.proofs.all.renew_far.Reads as reads
-use Rattle.replaying.proofs.all.renew_far.Lts as lts
+use Rattle.playing.proofs.all.renew_far.Statement.{statement}
+use Rattle.playing.proofs.all.renew_far.Tie as tie
+use Rattle.playing.proofs.all.renew_far.Reads as reads
+use Rattle.playing.proofs.all.renew_far.Lts as lts
 use Rattle.rests.proofs.meets_from.Reads as meets-from-reads
 
 -- src/all.rt:21:9

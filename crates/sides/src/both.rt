@@ -3,7 +3,7 @@ use gathers::collapse_row;
 ghost use Rattle.backends.specs.Crossing.{segments};
 ghost use Rattle.moments.specs.Window.{momentsAt, livesAt};
 ghost use Rattle.rests.specs.Rests.{meetsAt};
-ghost use Rattle.replaying.specs.Replays.{side, CatchesUp, Caught};
+ghost use Rattle.sides.specs.Sides.{side, CatchesUp, Caught};
 
 // Replays a side up to the slots' j-th moments, and collapses it by the meets of the moments from there on, where those from k on have the meets `far`.
 pub fn catch_up(

@@ -12,7 +12,7 @@ use Rattle.grid.proofs.Sizes.{mass}
 use Rattle.backends.specs.Crossing.{whole}
 use Rattle.gathers.specs.Gathered.{throughAt, gatheredAt, pastAt, Collapses}
 use Rattle.gathers.proofs.Bounds.{gathered-room, gathered-light}
-use Rattle.replaying.specs.Replays.{Side, side, held, ahead, Sized, Sound, Within, Caught, CatchesUp}
+use Rattle.sides.specs.Sides.{Side, side, held, ahead, Sized, Sound, Within, Caught, CatchesUp}
 
 pub caught-sound : {n : ℕ} {live ts met : List ℕ} {s s′ : Side} → Sized n s′ → Caught live ts met s s′ → Sound n s′
 caught-sound z c = record { sized = z; cut = c .cut; apart = c .apart }

@@ -1,12 +1,12 @@
 use mathlib.Core.Path.{_∙_}
-use Rattle.replaying.proofs.Rounding.{settle-catches, settle-starts, settle-within, settle-rounds, turn-settled}
+use Rattle.sides.proofs.Rounding.{settle-catches, settle-starts, settle-within, settle-rounds, turn-settled}
 use borrow.Author.Needs.{needs}
-use Rattle.replaying.proofs.turn.settle_turn.Statement.{statement}
-use Rattle.replaying.proofs.turn.settle_turn.Tie as tie
-use Rattle.replaying.proofs.turn.settle_turn.Reads as reads
-use Rattle.replaying.proofs.turn.settle_turn.Lts as lts
+use Rattle.sides.proofs.turn.settle_turn.Statement.{statement}
+use Rattle.sides.proofs.turn.settle_turn.Tie as tie
+use Rattle.sides.proofs.turn.settle_turn.Reads as reads
+use Rattle.sides.proofs.turn.settle_turn.Lts as lts
 use Rattle.moments.proofs.starts.Reads as starts-reads
-use Rattle.replaying.proofs.both.catch_up.Reads as catch-up-reads
+use Rattle.sides.proofs.both.catch_up.Reads as catch-up-reads
 use Rattle.settling.proofs.round.Reads as round-reads
 
 -- src/turn.rt:49:5

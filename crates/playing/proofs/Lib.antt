@@ -1,0 +1,4 @@
+pub mod Alike
+pub mod Turning
+pub mod Beginning
+pub mod Playing
