@@ -1,2 +1,4 @@
 pub mod Times
-pub mod Pairs
+pub mod Adding
+pub mod Putting
+pub mod Buffers

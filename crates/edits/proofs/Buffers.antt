@@ -1,6 +1,7 @@
 -- Loads and advances of edits, in columns that are as long as there are edits.
 --
 -- loads-all: joined times, consolidated, are a load
+-- settles: the columns consolidated with values first are the edits consolidated by (value, time)
 -- advances-left, advances-settled: a buffer whose times were joined, where it is consolidated already, and where it was consolidated then
 use Prim.Native.Nat.{ℕ, _-_}
 use native.Mathlib.Omega.{arith}
@@ -63,7 +64,7 @@ front-swapped {es} {n} f = record {
 }
 
 -- a buffer that was consolidated with values first
-settles : (ts vs : List ℕ) (ds : List ℤ) {ts′ vs′ : List ℕ} {ds′ : List ℤ} {r : ℕ} → length vs ≡ length ts → Front (consolidated (entries vs ts ds)) (length vs) r vs′ ts′ ds′ → Front (consolidate byValue (edits ts vs ds)) (length ts) r ts′ vs′ ds′
+pub settles : (ts vs : List ℕ) (ds : List ℤ) {ts′ vs′ : List ℕ} {ds′ : List ℤ} {r : ℕ} → length vs ≡ length ts → Front (consolidated (entries vs ts ds)) (length vs) r vs′ ts′ ds′ → Front (consolidate byValue (edits ts vs ds)) (length ts) r ts′ vs′ ds′
 unfolding edits
 settles ts vs ds {ts′} {vs′} {ds′} {r} n f =
     let g : Front (map swapped (consolidate byValue (edits ts vs ds))) (length vs) r vs′ ts′ ds′ = rw (← consolidate-swapped, ← swapped-edits ts vs ds) f in

@@ -2,7 +2,7 @@
 --
 -- times-edits, values-edits, diffs-edits: the columns, taken out of the edits again. edits-map: the edits of such columns
 -- length-edits: as many as there are times
--- edits-take: the front of each column. edits-slid: moved down in each column. edits-ahead: edits that agree from a place on have times that do
+-- map-laid: a list laid over a column, and a function of each. edits-take: the front of each column. edits-slid: moved down in each column. edits-ahead: edits that agree from a place on have times that do
 -- edits-within, edits-step, edits-step-one: what passes by its time, moved down in each column, is a step of the edits; so is the next one alone
 use Prim.Native.Nat.{ℕ, suc, _+_, _-_, _≤_, _<_}
 use native.Mathlib.Omega.{arith}
@@ -57,7 +57,7 @@ edits-map (e ∷ es) = ap (λ l. e ∷ l) (edits-map es)
 
 -- ---- what is done to each column alike
 module _ {A B : Type 0} (f : A → B) where
-  map-laid : (xs s : List A) → laid (map f xs) (map f s) ≡ map f (laid xs s)
+  pub map-laid : (xs s : List A) → laid (map f xs) (map f s) ≡ map f (laid xs s)
   unfolding laid
   map-laid xs s = rw (length-map s f, length-map xs f, ← map-drop f (length xs) s, ← map-append f xs (drop (length xs) s)) (sym (map-take f (length s) (xs ++ drop (length xs) s)))
 

@@ -1,6 +1,6 @@
 -- Loads and advances at the front of longer columns, whose parts are lent.
 --
--- fronted: what lies at the front of three columns, as edits; and what lies past it
+-- fronted: what lies at the front of three columns, as edits. fronted-within, fronted-take, fronted-drop: how much that is, what it is, and what lies past it
 -- loads-edits: a load of parts. lent-buffer: the parts that an advance lends. advances-edits, advances-nothing: an advance of parts; there is none
 use Prim.Native.Nat.{ℕ, zero, suc, _-_, _≤_}
 use native.Mathlib.Nat.{sub-zero}
@@ -47,13 +47,13 @@ module _ (n : ℕ) {es : List Edit} {r : ℕ} (ts vs : List ℕ) (ds : List ℤ)
       (column-front diffOf n es (edits ts vs ds) (f .diffs-are) (diffs-edits ts vs ds a) i))
       ∙ edits-map (padded noEdit n es ++ drop n (edits ts vs ds))
 
-  fronted-within : r ≤ n
+  pub fronted-within : r ≤ n
   fronted-within = omega (arith, f .count-is)
 
-  fronted-take : take r (edits (x ++ drop (n - 0) ts) (y ++ drop (n - 0) vs) (z ++ drop (n - 0) ds)) ≡ es
+  pub fronted-take : take r (edits (x ++ drop (n - 0) ts) (y ++ drop (n - 0) vs) (z ++ drop (n - 0) ds)) ≡ es
   fronted-take = rw (fronted, append-assoc) (take-at es _ r (sym (f .count-is)))
 
-  fronted-drop : drop n (edits (x ++ drop (n - 0) ts) (y ++ drop (n - 0) vs) (z ++ drop (n - 0) ds)) ≡ drop n (edits ts vs ds)
+  pub fronted-drop : drop n (edits (x ++ drop (n - 0) ts) (y ++ drop (n - 0) vs) (z ++ drop (n - 0) ds)) ≡ drop n (edits ts vs ds)
   fronted-drop = rw fronted (drop-at (padded noEdit n es) (drop n (edits ts vs ds)) n (rw (length-append, length-replicate) (omega arith)))
 
 -- ---- a load

@@ -33,7 +33,7 @@ fn move_diffs_down(s: &mut [i64], count: usize, at: usize, to: usize)
 }
 
 // Moves the edits from `at` up to `to` down to the place `count`.
-fn move_edits(
+pub fn move_edits(
     times: &mut [u64],
     values: &mut [u64],
     diffs: &mut [i64],
