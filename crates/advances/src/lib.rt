@@ -1,1 +1,3 @@
 // Laws.
+mod put;
+pub use put::put_all;
