@@ -6,7 +6,6 @@ use histories::join_each;
 use rows::pair_before;
 use times::Meet;
 use times::PackedTime;
-ghost use mathlib.Core.Path.{_≡_};
 ghost use Prim.Native.Nat.{_≤_};
 ghost use lib.ListN.{length, take};
 ghost use Rattle.grid.specs.Consolidate.{consolidate};
