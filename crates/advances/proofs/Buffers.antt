@@ -3,7 +3,8 @@
 -- held-joined: what is asked of a buffer holds where its times are joined
 -- advanced-left, advanced-put, advanced-not: nothing was to be done, the edits were put in, and only the times were joined
 -- front-asks, front-settled: what the consolidation of the front asks, and what it leaves
--- edits-done, edits-settled, edits-left: a buffer that was advanced in place, one that was consolidated then, and there was no meet. joined-asks: what that consolidation asks
+-- edits-done, edits-settled, edits-left: a buffer that was advanced in place, one that was consolidated then, and there was no meet
+-- joined-held: a buffer whose times were joined is as large as it was. lent-held, held-lent: the buffer, and other columns, with the scratch
 use Prim.Native.Nat.{ℕ, zero, suc, _-_, _≤_}
 use native.Mathlib.Nat.{sub-zero}
 use native.Mathlib.Omega.{arith}
@@ -125,26 +126,37 @@ module _ (count : ℕ) {ts vs : List ℕ} {ds : List ℤ} {places firsts seconds
 pub edits-done : {o : Option ℕ} {p count : ℕ} {es es₁ : List Edit} {done : Bool} {r : ℕ} → o ≡ some p → AdvancedInPlace p count es es₁ done r → done ≡ true → Renewed (advanceEdits o (take count es)) count es es₁ r
 edits-done e w t = rw e (w .settled t)
 
-module _ {count : ℕ} {ts vs : List ℕ} {ds : List ℤ} {places firsts seconds : List ℕ} {sums : List ℤ} (a : LentBuffer count ts vs ds places firsts seconds sums) where
-  lent-within : count ≤ length (edits ts vs ds)
-  lent-within = rw (length-edits ts vs ds (a .alike)) (a .within)
+module _ {count : ℕ} {ts vs : List ℕ} {ds : List ℤ} (a : Held count ts vs ds) where
+  whole-within : count ≤ length (edits ts vs ds)
+  whole-within = rw (length-edits ts vs ds (a .alike)) (a .within)
 
   -- the buffer is as large as it was
-  pub joined-asks : {p : ℕ} {ts₁ vs₁ : List ℕ} {ds₁ : List ℤ} {done : Bool} {r : ℕ} → Alike ts₁ vs₁ ds₁ → length ts₁ ≡ length ts → AdvancedInPlace p count (edits ts vs ds) (edits ts₁ vs₁ ds₁) done r → done ≡ false
-      → LentBuffer count ts₁ vs₁ ds₁ places firsts seconds sums
-  joined-asks {p} {ts₁} {vs₁} {ds₁} b l w n = record {
+  pub joined-held : {p : ℕ} {ts₁ vs₁ : List ℕ} {ds₁ : List ℤ} {done : Bool} {r : ℕ} → Alike ts₁ vs₁ ds₁ → length ts₁ ≡ length ts → AdvancedInPlace p count (edits ts vs ds) (edits ts₁ vs₁ ds₁) done r → done ≡ false → Held count ts₁ vs₁ ds₁
+  joined-held {p} {ts₁} {vs₁} {ds₁} b l w n = record {
     alike = b;
     within = rw l (a .within);
-    bounded = rw (buffer-mass ts₁ vs₁ ds₁ b count, joined-mass p count (edits ts vs ds) lent-within (w .joins n), ← buffer-mass ts vs ds (a .alike) count) (a .bounded);
+    bounded = rw (buffer-mass ts₁ vs₁ ds₁ b count, joined-mass p count (edits ts vs ds) whole-within (w .joins n), ← buffer-mass ts vs ds (a .alike) count) (a .bounded);
+  }
+
+  pub edits-settled : {o : Option ℕ} {p : ℕ} {es₁ es′ : List Edit} {done : Bool} {r r′ : ℕ} → o ≡ some p → AdvancedInPlace p count (edits ts vs ds) es₁ done r → done ≡ false → Renewed (consolidate byValue (take count es₁)) count es₁ es′ r′
+      → Renewed (advanceEdits o (take count (edits ts vs ds))) count (edits ts vs ds) es′ r′
+  edits-settled {p = p} e w n m = rw e (joined-renewed p count (edits ts vs ds) whole-within (w .joins n) m)
+
+-- with the scratch
+module _ {count : ℕ} {ts vs : List ℕ} {ds : List ℤ} {places firsts seconds : List ℕ} {sums : List ℤ} (a : LentBuffer count ts vs ds places firsts seconds sums) where
+  pub lent-held : Held count ts vs ds
+  lent-held = record { alike = a .alike; within = a .within; bounded = a .bounded }
+
+  pub held-lent : {ts₁ vs₁ : List ℕ} {ds₁ : List ℤ} → Held count ts₁ vs₁ ds₁ → LentBuffer count ts₁ vs₁ ds₁ places firsts seconds sums
+  held-lent h = record {
+    alike = h .alike;
+    within = h .within;
+    bounded = h .bounded;
     room-places = a .room-places;
     room-firsts = a .room-firsts;
     room-seconds = a .room-seconds;
     room-sums = a .room-sums;
   }
-
-  pub edits-settled : {o : Option ℕ} {p : ℕ} {es₁ es′ : List Edit} {done : Bool} {r r′ : ℕ} → o ≡ some p → AdvancedInPlace p count (edits ts vs ds) es₁ done r → done ≡ false → Renewed (consolidate byValue (take count es₁)) count es₁ es′ r′
-      → Renewed (advanceEdits o (take count (edits ts vs ds))) count (edits ts vs ds) es′ r′
-  edits-settled {p = p} e w n m = rw e (joined-renewed p count (edits ts vs ds) lent-within (w .joins n) m)
 
 pub edits-left : {o : Option ℕ} {count : ℕ} (E : List Edit) → o ≡ none → Renewed (advanceEdits o (take count E)) count E E count
 unfolding advanceEdits

@@ -1,4 +1,4 @@
-use Rattle.advances.proofs.Buffers.{edits-done, joined-asks, edits-settled, edits-left}
+use Rattle.advances.proofs.Buffers.{edits-done, joined-held, edits-settled, lent-held, held-lent, edits-left}
 use Rattle.times.specs.Meets.{optional}
 use mathlib.Core.Path.{ap}
 use borrow.Author.Needs.{needs}
@@ -35,7 +35,7 @@ returns c = edits-done (ap optional (c .before .before .before .before .before .
 
 -- src/buffer.rt:111:9
 consolidate-front-requires : tie.Need-consolidate-front-requires
-consolidate-front-requires c κs = joined-asks (c .before .before .before .before .before .before .before .before .before .before .before .before .before .before .before .before .before .before .before .before .before .before .before .before .before .pre) (record { values = search needs; diffs = search needs }) (search needs) (c .before .before .before .before .before .before .before .before .before .before .before .before .before .advance-in-place .ensures) (c .before .before .before .before .before .before .before .if1 .left)
+consolidate-front-requires c κs = held-lent (c .before .before .before .before .before .before .before .before .before .before .before .before .before .before .before .before .before .before .before .before .before .before .before .before .before .pre) (joined-held (lent-held (c .before .before .before .before .before .before .before .before .before .before .before .before .before .before .before .before .before .before .before .before .before .before .before .before .before .pre)) (record { values = search needs; diffs = search needs }) (search needs) (c .before .before .before .before .before .before .before .before .before .before .before .before .before .advance-in-place .ensures) (c .before .before .before .before .before .before .before .if1 .left))
 
 -- src/buffer.rt:111:9
 same-length-4 : tie.Need-same-length-4
@@ -67,7 +67,7 @@ same-length-10 c = search needs
 
 -- src/buffer.rt:111:9
 returns-2 : tie.Need-returns-2
-returns-2 c = edits-settled (c .before .before .before .before .before .before .before .before .before .before .before .before .before .before .before .before .before .before .before .before .before .before .before .before .before .before .before .before .before .before .before .before .before .before .before .before .before .before .pre) (ap optional (c .before .before .before .before .before .before .before .before .before .before .before .before .before .before .before .before .before .before .before .before .before .before .before .before .before .before .before .before .before .before .before .m .given .1)) (c .before .before .before .before .before .before .before .before .before .before .before .before .before .before .before .before .before .before .before .before .before .before .before .before .before .before .advance-in-place .ensures) (c .before .before .before .before .before .before .before .before .before .before .before .before .before .before .before .before .before .before .before .before .if1 .left) (c .before .before .before .before .before .before .before .before .before .before .before .before .consolidate-front .ensures)
+returns-2 c = edits-settled (lent-held (c .before .before .before .before .before .before .before .before .before .before .before .before .before .before .before .before .before .before .before .before .before .before .before .before .before .before .before .before .before .before .before .before .before .before .before .before .before .before .pre)) (ap optional (c .before .before .before .before .before .before .before .before .before .before .before .before .before .before .before .before .before .before .before .before .before .before .before .before .before .before .before .before .before .before .before .m .given .1)) (c .before .before .before .before .before .before .before .before .before .before .before .before .before .before .before .before .before .before .before .before .before .before .before .before .before .before .advance-in-place .ensures) (c .before .before .before .before .before .before .before .before .before .before .before .before .before .before .before .before .before .before .before .before .if1 .left) (c .before .before .before .before .before .before .before .before .before .before .before .before .consolidate-front .ensures)
 
 enum-told : tie.Need-enum-told
 enum-told c = search needs
