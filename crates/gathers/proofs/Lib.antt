@@ -6,3 +6,4 @@ pub mod Row
 pub mod Parts
 pub mod Turns
 pub mod InPlace
+pub mod Advancing

@@ -1,7 +1,7 @@
 -- One slot: what it holds and what joins it, appended and advanced.
 --
 -- slot-first, slot-second: what appending asks. slot-bounds: where both end. slot-advance: what the advance asks. slot-joined: what it leaves
--- slot-place, slot-end, slot-kept: places and lengths. part-asks: what the advance asks, with its scratch
+-- slot-place, slot-end, slot-kept: places and lengths.
 use Prim.Native.Nat.{ℕ, _+_, _-_, _*_, _<_, _≤_, _^_}
 use native.Mathlib.Omega.{arith}
 use mathlib.Core.Path.{_≡_, sym, _∙_, ap}
@@ -17,7 +17,6 @@ use Rattle.consolidation.specs.Entries as columns
 use Rattle.consolidation.specs.Entries.{mostMass}
 use Rattle.edits.specs.Edits as timed
 use Rattle.edits.specs.Edits.{Alike}
-use Rattle.edits.specs.Buffers.{LentBuffer}
 use Rattle.edits.proofs.Masses.{buffer-mass}
 use Rattle.advances.specs.Renewed.{Renewed}
 use Rattle.backends.specs.Crossing.{part}
@@ -28,20 +27,6 @@ use Rattle.rounds.specs.Merges.{Rows, Lays}
 use Rattle.gathers.specs.Gathered.{LentPart, Joins, Joined}
 use Rattle.rests.proofs.Columns.{edits-both, edits-long, edits-append}
 use Rattle.gathers.proofs.Columns.{take-edits, rows-front, front-before, front-after}
-
-pub part-asks : {count : ℕ} {ts vs : List ℕ} {ds : List ℤ} {places : List ℕ} {sums : List ℤ} {n : ℕ} → (count ≤ n) × LentPart count ts vs ds places sums
-    → (firsts seconds : List ℕ) → length firsts ≡ n → length seconds ≡ n → LentBuffer count ts vs ds places firsts seconds sums
-part-asks {count} {n = n} a firsts seconds f s =
-    let h : count ≤ n = a .0 in
-    record {
-      alike = a .1 .alike;
-      within = a .1 .within;
-      bounded = a .1 .bounded;
-      room-places = a .1 .room-places;
-      room-firsts = omega arith;
-      room-seconds = omega arith;
-      room-sums = a .1 .room-sums;
-    }
 
 module _ {uv ut : List ℕ} {ud : List ℤ} {sv st : List ℕ} {sd : List ℤ} {yv₀ yt₀ : List ℕ} {yd₀ : List ℤ} {at : ℕ} {places : List ℕ} {sums : List ℤ}
     (a : Joins uv ut ud sv st sd yv₀ yt₀ yd₀ at places sums) where
