@@ -1,7 +1,7 @@
 -- Buffers of edits that are advanced: their times are joined, and what is not consolidated then is.
 --
 -- held-joined: what is asked of a buffer holds where its times are joined
--- advanced-left, advanced-put, advanced-not: nothing was to be done, the edits were put in, and only the times were joined
+-- advanced-put, advanced-not: the edits were put in, and only the times were joined
 -- front-asks, front-settled: what the consolidation of the front asks, and what it leaves
 -- edits-done, edits-settled, edits-left: a buffer that was advanced in place, one that was consolidated then, and there was no meet
 -- joined-held: a buffer whose times were joined is as large as it was. lent-held, held-lent: the buffer, and other columns, with the scratch
@@ -21,12 +21,11 @@ use Rattle.grid.proofs.Sizes as sizes
 use Rattle.grid.proofs.Tests.{clash}
 use Rattle.consolidation.specs.Entries.{entries, consolidated, Front, Lent, LentWork}
 use Rattle.rules.specs.Histories.{Edit, byValue, joinedEdit, advanceEdits}
-use Rattle.edits.specs.Edits.{edits, Alike, isConsolidated}
+use Rattle.edits.specs.Edits.{edits, Alike}
 use Rattle.edits.specs.Buffers.{LentBuffer}
 use Rattle.edits.proofs.Edits.{length-edits, edits-take}
 use Rattle.edits.proofs.Buffers.{settles}
 use Rattle.edits.proofs.Fronts.{lent-buffer, fronted-within, fronted-take, fronted-drop}
-use Rattle.edits.proofs.InOrder.{consolidated-same}
 use Rattle.edits.proofs.Masses.{buffer-mass}
 use Rattle.advances.specs.Renewed.{Renewed, Held, AdvancedInPlace}
 
@@ -82,13 +81,6 @@ module _ (p : ℕ) {count : ℕ} {ts vs : List ℕ} {ds : List ℤ} (a : Held co
 
   pub advanced-put : {es′ : List Edit} {r : ℕ} → Renewed (consolidate byValue (take count (edits (x ++ drop (count - 0) ts) vs ds))) count (edits (x ++ drop (count - 0) ts) vs ds) es′ r → AdvancedInPlace p count (edits ts vs ds) es′ true r
   advanced-put m = record { settled = λ t. joined-renewed p count (edits ts vs ds) held-within joined-columns m; joins = λ t. clash true refl t }
-
-  pub advanced-left : true ≡ isConsolidated (edits (take (count - 0) (x ++ drop (count - 0) ts)) (take (count - 0) vs) (take (count - 0) ds)) → AdvancedInPlace p count (edits ts vs ds) (edits (x ++ drop (count - 0) ts) vs ds) true count
-  advanced-left t =
-      let es₁ = edits (x ++ drop (count - 0) ts) vs ds in
-      let z : count - 0 ≡ count = omega arith in
-      let c : true ≡ isConsolidated (take count es₁) = t ∙ ap isConsolidated (edits-take (x ++ drop (count - 0) ts) vs ds joined-alike (count - 0) ∙ ap (λ n. take n es₁) z) in
-      advanced-put (record { within = omega arith; buffer = sym (consolidated-same (take count es₁) c); same-ahead = refl })
 
   pub advanced-not : AdvancedInPlace p count (edits ts vs ds) (edits (x ++ drop (count - 0) ts) vs ds) false count
   advanced-not = record { settled = λ t. clash true refl (sym t); joins = λ t. joined-columns }

@@ -5,6 +5,7 @@
 -- Open k ts vs ds d: the first k edits of the columns are consolidated, there is room for one more, and with the diff d the diffs are small in all
 -- Divides key k es j: of the first k edits those up to j are before the key, and the others are not
 -- standsAt ts vs k j t v: the edit at j is one of the first k, and is of this time and value
+-- Follows i es: the edit at i is after all before it
 -- AdvancedInPlace p count es es′ done r: the buffer was advanced by p, and r are left; or only its times were joined
 use Prim.Native.Nat.{ℕ, _+_, _≤_, _<_}
 use mathlib.Core.Bool.{Bool, true, false, _&&_}
@@ -20,6 +21,7 @@ use Rattle.grid.proofs.Sizes as sizes
 use Rattle.consolidation.specs.Entries.{mass, mostMass}
 use Rattle.rules.specs.Histories.{Edit, byValue, joinedEdit, advanceEdits}
 use Rattle.edits.specs.Edits.{edits, Alike, keyOf}
+use Rattle.edits.specs.Buffers.{noEdit}
 
 pub record Renewed {A : Type 0} (b : List A) (count : ℕ) (col col′ : List A) (r : ℕ) : Type 0 where
   pub within : r ≤ count
@@ -44,6 +46,9 @@ pub record Divides (key : ℕ × ℕ) (k : ℕ) (es : List Edit) (j : ℕ) : Typ
 
 unfoldable pub standsAt : List ℕ → List ℕ → ℕ → ℕ → ℕ → ℕ → Bool
 standsAt ts vs k j t v = ltb j k && (eqb (getD ts j 0) t && eqb (getD vs j 0) v)
+
+abbrev pub Follows : ℕ → List Edit → Type 0
+Follows i es = All (λ (e : Edit). byValue (keyOf e) (keyOf (getD es i noEdit)) ≡ true) (take i es)
 
 pub record AdvancedInPlace (p count : ℕ) (es es′ : List Edit) (done : Bool) (r : ℕ) : Type 0 where
   pub settled : done ≡ true → Renewed (advanceEdits (some p) (take count es)) count es es′ r

@@ -1,13 +1,11 @@
 // ValueHistory's buffer.
-use crate::put::put_all;
+use crate::put::ascent;
+use crate::put::put_from;
 use consolidation::consolidate;
-use edits::is_consolidated;
 use histories::join_each;
-use rows::pair_before;
 use times::Meet;
 use times::PackedTime;
-ghost use Prim.Native.Nat.{_≤_};
-ghost use lib.ListN.{length, take};
+ghost use lib.ListN.{take};
 ghost use Rattle.grid.specs.Consolidate.{consolidate};
 ghost use Rattle.times.specs.Meets.{optional};
 ghost use Rattle.rules.specs.Histories.{byValue, advanceEdits};
@@ -21,26 +19,7 @@ pub struct Advanced {
     pub count: usize,
 }
 
-// Whether all but at most the last eight of the first `count` edits ascend by (value, time). To put them in is the faster way then.
-fn nearly_ascends(times: &[u64], values: &[u64], count: usize) -> bool
-    requires { ⌜ (count ≤ length (now times)) × (count ≤ length (now values)) ⌝ }
-{
-    if count <= 8 {
-        return true;
-    }
-    let ordered = count - 8;
-    let mut i = 1;
-    while i < ordered {
-        if pair_before(values[i - 1], times[i - 1], values[i], times[i]) {
-            i += 1;
-        } else {
-            return false;
-        }
-    }
-    true
-}
-
-// Joins the first `count` edits with p. Where they are consolidated then, or nearly so, they are advanced without scratch.
+// Joins the first `count` edits with p. Where all but at most eight stand consolidated then, the others are put in, and no scratch is needed.
 pub fn advance_in_place(
     p: PackedTime,
     times: &mut [u64],
@@ -52,14 +31,9 @@ pub fn advance_in_place(
     ensures { λ r. ⌜ AdvancedInPlace (p .0) count (edits (now (times .entry)) (now (values .entry)) (now (diffs .entry))) (edits (now (times .exit)) (now (values .exit)) (now (diffs .exit))) (r .done) (r .count) ⌝ }
 {
     join_each(p, &mut times[0..count]);
-    if is_consolidated(&times[0..count], &values[0..count], &diffs[0..count]) {
-        return Advanced {
-            done: true,
-            count: count,
-        };
-    }
-    if nearly_ascends(times, values, count) {
-        let k = put_all(times, values, diffs, count);
+    let q = ascent(times, values, diffs, count);
+    if count - q <= 8 {
+        let k = put_from(times, values, diffs, q, count);
         return Advanced {
             done: true,
             count: k,

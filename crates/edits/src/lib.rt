@@ -6,7 +6,6 @@ mod stepping;
 
 pub use buffer::advance_buffer_by;
 pub use buffer::load_edits;
-pub use order::is_consolidated;
 pub use stepping::move_edits;
 pub use stepping::step;
 pub use stepping::step_through;
