@@ -31,7 +31,7 @@ pub fn lay_outputs(
 }
 
 // Copies ends of segments.
-pub fn copy_ends(src: &[usize], dst: &mut [usize])
+fn copy_ends(src: &[usize], dst: &mut [usize])
     requires { ⌜ length (now dst) ≡ length (now src) ⌝ }
     ensures { λ _. ⌜ now (dst .exit) ≡ now (src .entry) ⌝ }
 {
@@ -43,7 +43,7 @@ pub fn copy_ends(src: &[usize], dst: &mut [usize])
 }
 
 // Copies merged segments and their ends to the front of the output's columns.
-pub fn copy_back(
+fn copy_back(
     ye: &[usize],
     yv: &[u64],
     yt: &[u64],

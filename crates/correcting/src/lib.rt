@@ -3,8 +3,6 @@ mod back;
 mod fixing;
 mod ranges;
 
-pub use back::copy_back;
-pub use back::copy_ends;
 pub use back::lay_outputs;
 pub use fixing::settle_round;
 
