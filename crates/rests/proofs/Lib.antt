@@ -2,4 +2,4 @@ pub mod Columns
 pub mod Under
 pub mod Loading
 pub mod Meeting
-pub mod Nearing
+pub mod Blocks

@@ -1,15 +1,16 @@
 -- The loops that take the meets of moments.
 --
 -- Halving: the parts of the meet of the times before i are a and b. halving-none, halving-start, halving-more, halving-end: the loop keeps that
--- Remaining: the meets of the slots before b are taken, and the next slot's moments begin at f. remaining-start, remaining-some, remaining-none,
--- remaining-end: the loop keeps that. here-met, bounds: what a turn asks
-use Prim.Native.Nat.{ℕ, zero, suc, _+_, _-_, _<_, _≤_, min}
+-- past-some, past-none: the meet of the moments from i on, where there are some and where there is none
+-- Remaining: the meets of the slots before b are taken, and the next slot's moments begin at f. remaining-start, remaining-more, remaining-end: the
+-- loop keeps that. here-met, bounds: what a turn asks
+use Prim.Native.Nat.{ℕ, _+_, _-_, _<_, _≤_, min}
 use native.Mathlib.Omega.{arith}
 use mathlib.Core.List.{List, [], _∷_}
 use mathlib.Core.Option.{Option, none, some}
 use mathlib.Core.Path.{_≡_, refl, sym, _∙_, ap}
-use lib.ListN.{length, take, drop, getD, set, drop-of-length-le}
-use lib.Seq.{take-all, take-nil, drop-drop}
+use lib.ListN.{length, drop, getD, set, length-drop, drop-of-length-le}
+use lib.Seq.{take-all}
 use Rattle.grid.specs.Times.{span, hi, lo, at, meet, meetOnto, meets}
 use Rattle.grid.proofs.Times.{ext, hi-at, lo-at, lo-lt, hi-meet, lo-meet}
 use Rattle.grid.proofs.Loops.{drop-more}
@@ -18,7 +19,7 @@ use Rattle.rules.specs.Discover.{mostMoments}
 use Rattle.backends.specs.Columns.{Column}
 use Rattle.backends.specs.Crossing.{part, segments, Cut}
 use Rattle.backends.proofs.Columns.{Writing, writing-start, writing-more, writing-end}
-use Rattle.backends.proofs.Segments.{part-length, cut-next, segments-next}
+use Rattle.backends.proofs.Segments.{cut-next, segments-next}
 use Rattle.rests.specs.Rests.{meetOf, meetsAt, Meeting}
 
 -- ---- one list
@@ -67,19 +68,14 @@ module _ {ts : List ℕ} {a b i : ℕ} (m : Halving ts a b i) where
   unfolding meets meetOnto
   halving-end h e = e ∙ ap (λ l. meetOnto (at a b) (meets l none)) (sym (drop-of-length-le ts {i = i} h)) ∙ m .met
 
+pub past-some : (i : ℕ) (l : List ℕ) {r : ℕ} → r ≡ meetOf (part i (length l) l) → r ≡ meetOf (drop i l)
+past-some i l e = e ∙ ap meetOf (take-all (length l - i) (drop i l) (rw length-drop (omega arith)))
+
+pub past-none : (i : ℕ) (l : List ℕ) → length l ≤ i → 0 ≡ meetOf (drop i l)
+unfolding meetOf
+past-none i l h = ap meetOf (sym (drop-of-length-le l {i = i} h))
+
 -- ---- all slots
-module _ {A : Type 0} where
-  drop-take : (j n : ℕ) (l : List A) → drop j (take n l) ≡ take (n - j) (drop j l)
-  drop-take zero n l = let e : n ≡ n - 0 = omega arith in ap (λ z. take z l) e
-  drop-take (suc j) zero l = let e : 0 ≡ 0 - suc j = omega arith in ap (λ z. take z (drop (suc j) l)) e
-  drop-take (suc j) (suc n) [] = sym (take-nil (suc n - suc j))
-  drop-take (suc j) (suc n) (x ∷ l) = let e : n - j ≡ suc n - suc j = omega arith in drop-take j n l ∙ ap (λ z. take z (drop j l)) e
-
-  drop-part : (f e j : ℕ) (l : List A) → drop j (part f e l) ≡ part (f + j) e l
-  drop-part f e j l =
-      let n : e - f - j ≡ e - (f + j) = omega arith in
-      drop-take j (e - f) (drop f l) ∙ ap (λ z. take z (drop j (drop f l))) n ∙ ap (take (e - (f + j))) (drop-drop j f l)
-
 pub record Remaining (j : ℕ) (moments es met₀ met : List ℕ) (b f : ℕ) : Type 0 where
   pub asks : Meeting moments es met₀
   pub bn : b ≤ length es
@@ -99,20 +95,13 @@ module _ {j : ℕ} {moments es met₀ met : List ℕ} {b f : ℕ} (m : Remaining
   pub bounds : (f ≤ e) × (e ≤ length moments)
   bounds = let q = cut-next es b h (m .cut) in (q .0, q .1 .0)
 
-  remaining-next : (r : ℕ) → meetOf (drop j (part f e moments)) ≡ r → Remaining j moments es met₀ (set met b r) (b + 1) e
-  remaining-next r p = record {
+  pub remaining-more : {r : ℕ} → r ≡ meetOf (drop j (part f e moments)) → Remaining j moments es met₀ (set met b r) (b + 1) e
+  remaining-more {r} p = record {
     asks = m .asks;
     bn = omega arith;
     cut = cut-next es b h (m .cut) .1 .1 .1;
-    taken = writing-more (m .taken) r here-met (ap (meetsAt j) (segments-next f es moments b h) ∙ ap (λ z. z ∷ meetsAt j (segments e (drop (b + 1) es) moments)) p);
+    taken = writing-more (m .taken) r here-met (ap (meetsAt j) (segments-next f es moments b h) ∙ ap (λ z. z ∷ meetsAt j (segments e (drop (b + 1) es) moments)) (sym p));
   }
-
-  pub remaining-some : {r : ℕ} → r ≡ meetOf (part (f + j) e moments) → Remaining j moments es met₀ (set met b r) (b + 1) e
-  remaining-some {r} p = remaining-next r (ap meetOf (drop-part f e j moments) ∙ sym p)
-
-  pub remaining-none : e - f ≤ j → Remaining j moments es met₀ (set met b 0) (b + 1) e
-  unfolding meetOf
-  remaining-none g = remaining-next 0 (ap meetOf (drop-of-length-le (part f e moments) {i = j} (rw (part-length f e moments (bounds .0) (bounds .1)) g)))
 
 pub remaining-end : {j : ℕ} {moments es met₀ met : List ℕ} {b f : ℕ} → Remaining j moments es met₀ met b f → length es ≤ b → met ≡ meetsAt j (segments 0 es moments)
 unfolding segments

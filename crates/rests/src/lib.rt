@@ -3,5 +3,5 @@ mod loads;
 mod meets;
 
 pub use loads::load_row;
+pub use meets::blocks_from;
 pub use meets::meets_from;
-pub use meets::slot_between;
