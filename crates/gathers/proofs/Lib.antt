@@ -6,4 +6,4 @@ pub mod Row
 pub mod Parts
 pub mod Turns
 pub mod InPlace
-pub mod Advancing
+pub mod JoinedInPlace

@@ -3,7 +3,7 @@
 -- pass-asks, gather-asks: what finding the places and gathering the slots ask
 -- Collapsing: the slots before b are gathered, and those from b on have their moments from g on. collapsing-start, collapse-live, collapse-none,
 -- collapsing-end: the loop keeps that
--- place-fits, in-*, bounds-*, far-asks, past-fits, slot-asks: what a turn asks
+-- place-fits, in-*, bounds-*, far-fits, far-meet, past-fits, slot-asks: what a turn asks
 use Prim.Native.Nat.{ℕ, _+_, _-_, _*_, _<_, _≤_, _^_}
 use native.Mathlib.Omega.{arith}
 use mathlib.Core.Bool.{cond}
@@ -28,6 +28,7 @@ use Rattle.moments.specs.Present.{edits}
 use Rattle.moments.specs.Window.{partsOf, momentsAt, livesAt}
 use Rattle.moments.proofs.Taking.{length-segments}
 use Rattle.rests.specs.Rests.{meetOf, meetsAt}
+use Rattle.rests.proofs.Blocks.{block-place, block-meet}
 use Rattle.gathers.specs.Gathered.{throughAt, pastAt, gatheredAt, throughsOf, Joins, Joined, Collapses, Gathered}
 use Rattle.gathers.proofs.Bounds.{moved-mass}
 use Rattle.gathers.proofs.Ahead as ahead
@@ -188,9 +189,6 @@ module _ {j k : ℕ} {moments mends far es rv rt : List ℕ} {rd : List ℤ} {at
     pub in-rests : b < length es
     in-rests = ahead.in-to (m .passed) at-live
 
-    pub in-far : b < length far
-    in-far = let l : length far ≡ length mends = ap length (m .asks .far-is) ∙ long (m .asks) (λ l. meetOf (drop k l)) in omega arith
-
     here : (g ≤ w) × ((w ≤ length moments) × ((length (part g w moments) ≤ mostMoments) × Cut (λ l. length l ≤ mostMoments) moments w (drop (b + 1) mends)))
     here = cut-next mends b h (m .cut)
 
@@ -235,8 +233,19 @@ module _ {j k : ℕ} {moments mends far es rv rt : List ℕ} {rd : List ℤ} {at
     slot-meet : getD N b 0 ≡ meetOf (drop j (part g w moments))
     slot-meet = at-slot (λ l. meetOf (drop j l))
 
-    pub far-asks : (j < k) × (getD far b 0 ≡ meetOf (drop k (part g w moments)))
-    far-asks = (m .asks .later, ap (λ l. getD l b 0) (m .asks .far-is) ∙ at-slot (λ l. meetOf (drop k l)))
+    pub far-fits : j < w - g → (64 * b < 2 ^ 64) × ((j + 64 < 2 ^ 64) × ((64 * b + (j + 64 - k) < 2 ^ 64) × ((64 * b + (j + 64 - k)) * 8 < 2 ^ 64)))
+    far-fits q =
+        let x : length mends ≤ 64 = m .asks .few in
+        let y : j < k = m .asks .later in
+        let u : length (part g w moments) ≡ w - g = slot-long in
+        let v : length (part g w moments) ≤ 1024 = here .1 .1 .0 in
+        (omega arith, (omega arith, (omega arith, omega arith)))
+
+    pub in-far : 64 * b + (j + 64 - k) < length far
+    in-far = rw (m .asks .far-is) (block-place j k S b (m .asks .later) (let l : length S ≡ length mends = length-segments 0 mends moments in omega arith))
+
+    pub far-meet : getD far (64 * b + (j + 64 - k)) 0 ≡ meetOf (drop j (part g w moments))
+    far-meet = ap (λ l. getD l (64 * b + (j + 64 - k)) 0) (m .asks .far-is) ∙ block-meet j k S b (m .asks .later) (m .asks .near) slot
 
     -- one slot that is live: c edits of those ahead of it are up to its moment
     module _ {c : ℕ} (q : j < w - g) (o : c ≡ 0 + length (front (λ u. leb u (getD moments (g + j) 0)) (part a z rt))) where

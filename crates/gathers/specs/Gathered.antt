@@ -27,7 +27,7 @@ use Rattle.edits.specs.Edits.{Alike}
 use Rattle.backends.specs.Crossing.{part, segments, ends, whole, Cut}
 use Rattle.moments.specs.Present.{edits}
 use Rattle.moments.specs.Window.{partsOf, Apart}
-use Rattle.rests.specs.Rests.{Timely, meetsAt}
+use Rattle.rests.specs.Rests.{Timely, blocksAt}
 
 abbrev pub Ascends : List Edit → Type 0
 Ascends es = Sorted leb (map valueOf es)
@@ -89,12 +89,13 @@ pub record Joined (new : List Edit) (yv₀ yt₀ : List ℕ) (yd₀ : List ℤ) 
   pub front-is : take r (edits yv yt yd) ≡ take at (edits yv₀ yt₀ yd₀) ++ new
 
 -- ---- all slots
--- `far` has the meets of the slots' moments from the k-th on
+-- `far` has the meets of the slots' moments from each of the 64 before the k-th on
 pub record Collapses (j k : ℕ) (moments mends far es rv rt : List ℕ) (rd : List ℤ) (ats ue uv ut : List ℕ) (ud : List ℤ) (yv yt : List ℕ) (yd : List ℤ) (places : List ℕ) (sums : List ℤ) : Type 0 where
   pub few : length mends ≤ 64
   pub cut-m : Cut (λ m. length m ≤ mostMoments) moments 0 mends
   pub later : j < k
-  pub far-is : far ≡ meetsAt k (segments 0 mends moments)
+  pub near : k ≤ j + 64
+  pub far-is : far ≡ blocksAt k (segments 0 mends moments)
   pub same-e : length es ≡ length mends
   pub same-a : length ats ≡ length mends
   pub same-u : length ue ≡ length mends

@@ -1,7 +1,6 @@
 // Edits that join what a window's slots hold.
 use crate::advancing::advance_part;
 use histories::end_through;
-use rests::slot_between;
 use rounds::append_edits;
 use times::PackedTime;
 ghost use mathlib.Core.List.{_++_};
@@ -47,9 +46,9 @@ fn gather_slot(
     at + r
 }
 
-// Slot b's moments end at mends[b], and those from the k-th on have the meet far[b]; its segment ends at ue[b], and what is ahead of it is from at[b] to
-// re[b]. Where it has a j-th moment, what is ahead up to there joins it and it is advanced by the meet of the moments from there on; else it holds nothing.
-// The segments are laid in a row, and at and ue are theirs from then on. Returns where the row ends.
+// Slot b's moments end at mends[b], and its block of `far` has their meets from each of the 64 before the k-th on; its segment ends at ue[b], and what is
+// ahead of it is from at[b] to re[b]. Where it has a j-th moment, what is ahead up to there joins it and it is advanced by the meet of the moments from
+// there on; else it holds nothing. The segments are laid in a row, and at and ue are theirs from then on. Returns where the row ends.
 pub fn gather_row(
     j: usize,
     k: usize,
@@ -83,7 +82,7 @@ pub fn gather_row(
         let e = ue[b];
         if j < h - g {
             let t = PackedTime(moments[g + j]);
-            let m = PackedTime(slot_between(j, k, &moments[g..h], far[b]));
+            let m = PackedTime(far[64 * b + (j + 64 - k)]);
             let a = at[b];
             let z = re[b];
             let to = a + end_through(&rt[a..z], 0, t);

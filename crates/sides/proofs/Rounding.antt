@@ -66,6 +66,7 @@ module _ {j k : ℕ} {keys moments mends far xe xv xt : List ℕ} {xd : List ℤ
         few = omega arith;
         cut-m = x .cut-m;
         later = x .later;
+        near = x .near;
         far-is = x .far-is;
         sound = subst (λ (i : ℕ). Sound i O) (sym m) (x .output);
         within = within-more (omega arith) (x .output-within);
@@ -132,6 +133,7 @@ module _ {j k : ℕ} {keys moments mends far xe xv xt : List ℕ} {xd : List ℤ
         few = omega arith;
         cut-m = x .cut-m;
         later = x .later;
+        near = x .near;
         far-is = x .far-is;
         sound = subst (λ (i : ℕ). Sound i I) (sym m) (x .input);
         within = x .input-within;
@@ -152,6 +154,7 @@ module _ {j k : ℕ} {keys moments mends far xe xv xt : List ℕ} {xd : List ℤ
           same-m = x .same-m;
           cut-m = x .cut-m;
           later = x .later;
+          near = x .near;
           far-is = x .far-is;
           ends-e = lxe ∙ x .input .sized .ends-e;
           long-v = lxv ∙ x .input .sized .long-v;

@@ -38,6 +38,7 @@ module _ {j k : ℕ} {moments mends far xe xv xt : List ℕ} {xd : List ℤ} {ra
         few = x .few;
         cut-m = x .cut-m;
         later = x .later;
+        near = x .near;
         far-is = x .far-is;
         same-e = x .sound .sized .rest-e;
         same-a = x .sound .sized .at-e;

@@ -24,7 +24,7 @@ use Rattle.moments.specs.Window.{partsOf, Apart, momentsAt, livesAt}
 use Rattle.correcting.specs.Settle.{LentFixes, LentSums}
 use Rattle.correcting.specs.declared.Settled.{Settled}
 use Rattle.settling.specs.Rounds.{Rounded}
-use Rattle.rests.specs.Rests.{Timely, meetsAt}
+use Rattle.rests.specs.Rests.{Timely, meetsAt, blocksAt}
 use Rattle.gathers.specs.Gathered.{Ascends, throughAt, pastAt, gatheredAt}
 
 pub record Side : Type 0 where
@@ -90,7 +90,8 @@ pub record CatchesUp (j k : ℕ) (moments mends far : List ℕ) (s : Side) (iv :
   pub few : length mends ≤ 64
   pub cut-m : Cut (λ m. length m ≤ mostMoments) moments 0 mends
   pub later : j < k
-  pub far-is : far ≡ meetsAt k (segments 0 mends moments)
+  pub near : k ≤ j + 64
+  pub far-is : far ≡ blocksAt k (segments 0 mends moments)
   pub sound : Sound (length mends) s
   pub within : Within 8192 s
   pub scratch : LentScratch iv id ov od cv
@@ -101,7 +102,8 @@ pub record SettlesTurn (j k : ℕ) (keys moments mends far xe xv xt : List ℕ) 
   pub same-m : length mends ≡ length keys
   pub cut-m : Cut (λ m. length m ≤ mostMoments) moments 0 mends
   pub later : j < k
-  pub far-is : far ≡ meetsAt k (segments 0 mends moments)
+  pub near : k ≤ j + 64
+  pub far-is : far ≡ blocksAt k (segments 0 mends moments)
   pub ends-e : length xe ≡ length keys
   pub long-v : length xv ≡ 8192
   pub long-t : length xt ≡ 8192
@@ -127,7 +129,8 @@ pub record TakesTurn (j k : ℕ) (keys moments mends far : List ℕ) (I O : Side
   pub same-m : length mends ≡ length keys
   pub cut-m : Cut (λ m. length m ≤ mostMoments) moments 0 mends
   pub later : j < k
-  pub far-is : far ≡ meetsAt k (segments 0 mends moments)
+  pub near : k ≤ j + 64
+  pub far-is : far ≡ blocksAt k (segments 0 mends moments)
   pub input : Sound (length keys) I
   pub input-within : Within 8192 I
   pub output : Sound (length keys) O

@@ -5,7 +5,7 @@ ghost use Rattle.moments.specs.Window.{momentsAt, livesAt};
 ghost use Rattle.rests.specs.Rests.{meetsAt};
 ghost use Rattle.sides.specs.Sides.{side, CatchesUp, Caught};
 
-// Replays a side up to the slots' j-th moments, and collapses it by the meets of the moments from there on, where those from k on have the meets `far`.
+// Replays a side up to the slots' j-th moments, and collapses it by the meets of the moments from there on, which stand in `far` (see gather_row).
 pub fn catch_up(
     j: usize,
     k: usize,

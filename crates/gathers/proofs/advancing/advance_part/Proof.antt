@@ -1,4 +1,4 @@
-use Rattle.gathers.proofs.Advancing.{part-held, part-joined}
+use Rattle.gathers.proofs.JoinedInPlace.{part-held, part-joined}
 use Rattle.advances.proofs.Buffers.{edits-done, edits-settled}
 use mathlib.Core.Path.{refl}
 use borrow.Author.Needs.{needs}
