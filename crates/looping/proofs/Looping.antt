@@ -33,7 +33,7 @@ use Rattle.correcting.specs.Settle.{LentFixes}
 use Rattle.settled.specs.Call.{slotOf, windowsOf, rowsOf}
 use Rattle.settled.proofs.Through.{Through, through-start, through-more, through-large, through-rows, through-count}
 use Rattle.seeking.specs.Sought.{Reached}
-use Rattle.seeking.specs.declared.Progress.{Progress}
+use Rattle.progress.specs.declared.Progress.{Progress}
 use Rattle.turns.specs.Runs.{Runs, foundOf, slotAt, Asked}
 use Rattle.turns.specs.Worked.{Takes, Turned}
 use Rattle.looping.specs.Looped.{courseOf, Loops, Ended}

@@ -16,7 +16,7 @@ use Rattle.rounds.specs.Slots.{rowsTooLarge}
 use Rattle.settled.specs.Call.{windowsOf, rowsOf, crossingsOf}
 use Rattle.finding.specs.Tallies.{mostInput}
 use Rattle.answers.specs.declared.Course.{Course}
-use Rattle.seeking.specs.declared.Progress.{Progress}
+use Rattle.progress.specs.declared.Progress.{Progress}
 use Rattle.turns.specs.Runs.{Runs, Good, Asked}
 
 unfoldable pub passed : Request → Bool

@@ -1,6 +1,6 @@
 // The loop over the windows of a call: where it stands, and what it comes to.
 use answers::Course;
-use seeking::Progress;
+use progress::Progress;
 ghost use Prim.Native.Nat.{_+_, _≤_, min};
 ghost use mathlib.Core.Path.{_≡_};
 ghost use mathlib.Core.Bool.{_&&_, not};

@@ -32,7 +32,7 @@ use Rattle.settling.specs.Slotted.{Slotted}
 use Rattle.settling.proofs.Spanning.{span-steps}
 use Rattle.replaying.specs.Replays.{Replays}
 use Rattle.placing.proofs.Parts.{first-length, first-part}
-use Rattle.seeking.specs.declared.Progress.{Progress}
+use Rattle.progress.specs.declared.Progress.{Progress}
 use Rattle.mending.specs.Corrected.{settledOf, Wide, Corrects, Corrected, Weighs}
 
 pub settle-room : {uv ut : List ℕ} {ud : List ℤ} {iv : List ℕ} {id : List ℤ} {ov : List ℕ} {od cd : List ℤ} {res : List ℕ} → Wide uv ut ud iv id ov od cd res → 16384 ≤ length res

@@ -18,7 +18,7 @@ use Rattle.correcting.specs.Settle.{Settles, LentFixes}
 use Rattle.correcting.specs.declared.Settled.{Settled}
 use Rattle.settling.specs.Slotted.{Slotted}
 use Rattle.settling.specs.Rounds.{Steps}
-use Rattle.seeking.specs.declared.Progress.{Progress}
+use Rattle.progress.specs.declared.Progress.{Progress}
 
 abbrev pub settledOf : Progress → Settled
 settledOf p = record { fixes = p .fixes; crossings = p .crossings; large = p .large }

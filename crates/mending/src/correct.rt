@@ -1,8 +1,8 @@
 // The rounds of a window, unless a limit was passed or the corrections are too large already.
 use correcting::Settled;
 use correcting::lay_outputs;
+use progress::Progress;
 use replaying::settle_replayed;
-use seeking::Progress;
 use settling::longest;
 use settling::settle_window;
 ghost use mathlib.Core.Bool.{false, _||_};

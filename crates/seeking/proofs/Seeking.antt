@@ -32,7 +32,7 @@ use Rattle.finding.specs.Keyed.{foundAt}
 use Rattle.finding.specs.declared.Tally.{Tally}
 use Rattle.finding.proofs.Keyed.{searched-spans, searched-parted, window-found, window-moments}
 use Rattle.seeking.specs.Sought.{foundIn, Seeks, Reached, LentSeek, Sought}
-use Rattle.seeking.specs.declared.Progress.{Progress}
+use Rattle.progress.specs.declared.Progress.{Progress}
 
 -- what is counted before the discovery
 abbrev pub tallyOf : Progress → Tally

@@ -25,7 +25,7 @@ use Rattle.finding.specs.Tallies.{mostInput, mostWindow}
 use Rattle.finding.specs.Searched.{spansFrom, endFrom}
 use Rattle.finding.specs.Windowed.{spansIn, pendedRow, firstsOf, secondsOf, windowOver}
 use Rattle.finding.specs.Keyed.{foundAt}
-use Rattle.seeking.specs.declared.Progress.{Progress}
+use Rattle.progress.specs.declared.Progress.{Progress}
 
 abbrev pub foundIn : List ℕ → List ℕ → List ℕ → List ℕ → List ℕ → List ℕ → List ℕ → List ℕ → List ℤ → List ℕ → List ℕ → ℕ → State
 foundIn upper nk nt pk pt ik iv it id ok ot k = foundAt upper (pairs nk nt) (pairs pk pt) (rows ik iv it id) (pairs ok ot) k

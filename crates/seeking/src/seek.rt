@@ -1,9 +1,9 @@
 // A window's search and discovery.
-use crate::Progress;
 use crate::parts::find_parts;
 use finding::Places;
 use finding::Tally;
 use finding::search_window;
+use progress::Progress;
 ghost use Rattle.finding.specs.Tallies.{Scratch};
 ghost use Rattle.seeking.specs.Sought.{foundIn, Seeks, Reached, LentSeek, Sought};
 

@@ -28,7 +28,7 @@ use Rattle.moments.specs.Window.{partsOf}
 use Rattle.rounds.specs.Slots.{slotsOf}
 use Rattle.correcting.specs.Settle.{LentFixes}
 use Rattle.seeking.specs.Sought.{Seeks, LentSeek, Sought}
-use Rattle.seeking.specs.declared.Progress.{Progress}
+use Rattle.progress.specs.declared.Progress.{Progress}
 use Rattle.turns.specs.declared.Fronts.{Fronts}
 use Rattle.turns.specs.Runs.{Runs, inRows, outRows, foundOf, slotAt, Good}
 use Rattle.mending.specs.Corrected.{Wide, Corrects, Corrected}

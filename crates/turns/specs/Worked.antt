@@ -17,7 +17,7 @@ use Rattle.finding.specs.Windowed.{pendedRow, firstsOf, secondsOf, windowOver}
 use Rattle.rounds.specs.Slots.{windowRows, windowCrossings}
 use Rattle.correcting.specs.Settle.{Settles, LentFixes}
 use Rattle.seeking.specs.Sought.{Reached}
-use Rattle.seeking.specs.declared.Progress.{Progress}
+use Rattle.progress.specs.declared.Progress.{Progress}
 use Rattle.turns.specs.declared.Fronts.{Fronts}
 use Rattle.turns.specs.Runs.{Runs, Good, foundOf, slotAt}
 use Rattle.mending.specs.Corrected.{settledOf, Wide}

@@ -1,7 +1,7 @@
 // The two halves of a window's turn. Between them, what is found of the window's keys stands in columns by value.
 use crate::Fronts;
 use mending::correct_window;
-use seeking::Progress;
+use progress::Progress;
 use seeking::seek_window;
 ghost use lib.ListN.{length, take};
 ghost use Rattle.backends.specs.Crossing.{segments};

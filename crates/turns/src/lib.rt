@@ -3,7 +3,7 @@ mod halves;
 mod one;
 
 pub use one::work_window;
-use seeking::Progress;
+use progress::Progress;
 
 // What is found of a window's keys, and how far the call has come: the ends of their moments, and their parts of the input and of the old output,
 // in the fronts of columns.

@@ -1,7 +1,7 @@
 // One window's turn.
 use crate::halves::correct_fronts;
 use crate::halves::seek_fronts;
-use seeking::Progress;
+use progress::Progress;
 ghost use Rattle.turns.specs.Runs.{runs};
 ghost use Rattle.turns.specs.Worked.{LentWork, Takes, Turned};
 

@@ -14,7 +14,7 @@ use lib.ListN.{length}
 use mir.Syntax.{w64}
 use mir.Val.{Fits}
 use Rattle.backends.specs.Crossing.{part}
-use Rattle.seeking.specs.declared.Progress.{Progress}
+use Rattle.progress.specs.declared.Progress.{Progress}
 use Rattle.turns.specs.Runs.{Runs}
 use Rattle.turns.specs.Worked.{LentWork, Takes, Turned}
 use Rattle.answers.specs.declared.Course.{Course}

@@ -3,7 +3,7 @@ use answers::Course;
 use looping::course;
 use looping::goes_on;
 use looping::window_end;
-use seeking::Progress;
+use progress::Progress;
 use turns::work_window;
 ghost use Rattle.turns.specs.Runs.{runs};
 ghost use Rattle.turns.specs.Worked.{LentWork};
