@@ -34,7 +34,7 @@ use Rattle.settling.proofs.Going.{goes-now, drop-none, one}
 use Rattle.settling.proofs.Left.{Left, left-start, left-over, left-more, left-end, left-off}
 use Rattle.settling.proofs.Spanning.{span-steps, span-all, span-most}
 use Rattle.settling.proofs.SlotLaws.{rows-none, crossings-none, spent-slots}
-use Rattle.rests.specs.Rests.{meetsAt}
+use Rattle.rests.specs.Rests.{meetsAt, blocksAt}
 use Rattle.gathers.specs.Gathered.{Ascends}
 use Rattle.sides.specs.Sides.{Side, side, held, ahead, Sized, Sound, Within, TakesTurn, TurnTaken}
 use Rattle.playing.specs.Plays.{bothAt, Renews, Renewed, Begins}
@@ -162,12 +162,12 @@ pub record Replaying (mode : ℕ) (keys moments mends re rv rt : List ℕ) (rd :
   pub most-is : most ≡ spanFrom 0 0 mends
   pub sized-i : Sized (length keys) (side xe xv xt xd ra re rv rt rd)
   pub sized-o : Sized (length keys) (side ue uv ut ud sa se sv st sd)
-  pub long-far : length far ≡ length keys
+  pub long-far : length far ≡ 64 * length keys
   pub sums : LentSums iv ov id od cv cd
   pub lent : LentFixes fk fv ft fd
   pub order : j ≤ k
-  pub near : k ≤ j + 16
-  pub kept : j < k → far ≡ meetsAt k (segments 0 mends moments)
+  pub near : k ≤ j + 64
+  pub kept : j < k → far ≡ blocksAt k (segments 0 mends moments)
   pub over : r .large ≡ true → rowsTooLarge (p .fixes) (allRows mode keys moments mends re rv rt rd se sv st sd ra₀ sa₀) ≡ true
   pub on : r .large ≡ false → On mode keys (segments 0 mends moments) j (allRows mode keys moments mends re rv rt rd se sv st sd ra₀ sa₀) (allCrossings mode keys moments mends re rv rt rd se sv st sd ra₀ sa₀) p r fk₀ fv₀ ft₀ fd₀ (side xe xv xt xd ra re rv rt rd) (side ue uv ut ud sa se sv st sd) fk fv ft fd
 
@@ -236,7 +236,10 @@ module _ {mode : ℕ} {keys moments mends re rv rt : List ℕ} {rd : List ℤ} {
     replaying-less = let a : j < most = before in omega arith
 
     pub replaying-renews : Renews j k moments mends far
-    replaying-renews = record { meeting = record { cut = g .asks .cut-m; few = mends-few; room = g .long-far ∙ sym (g .asks .same-m) }; low = (let a : j < most = before in let b : most ≤ 1024 = most-few in omega arith); order = g .order; near = g .near; kept = g .kept }
+    replaying-renews =
+        let a : j < most = before in
+        let b : most ≤ 1024 = most-few in
+        record { meeting = record { low = omega arith; cut = g .asks .cut-m; few = mends-few; room = g .long-far ∙ ap (λ n. 64 * n) (sym (g .asks .same-m)) }; order = g .order; near = g .near; kept = g .kept }
 
     module _ {far′ : List ℕ} {k′ : ℕ} (w : Renewed j k′ ms far′) where
       pub replaying-asks : TakesTurn j k′ keys moments mends far′ I O iv id ov od cv cd fk fv ft fd r
@@ -251,6 +254,7 @@ module _ {mode : ℕ} {keys moments mends re rv rt : List ℕ} {rd : List ℤ} {
             same-m = g .asks .same-m;
             cut-m = g .asks .cut-m;
             later = w .later;
+            near = w .near;
             far-is = w .far-is;
             input = o .input;
             input-within = o .input-within;
@@ -277,7 +281,7 @@ module _ {mode : ℕ} {keys moments mends re rv rt : List ℕ} {rd : List ℤ} {
           let zi : Sized (length keys) (side xe′ xv′ xt′ xd′ ra′ re rv rt rd) = record { ends-e = lxe ∙ g .sized-i .ends-e; long-v = lxv ∙ g .sized-i .long-v; long-t = lxt ∙ g .sized-i .long-t; long-d = lxd ∙ g .sized-i .long-d; at-e = lra ∙ g .sized-i .at-e; rest-e = g .sized-i .rest-e; same-t = g .sized-i .same-t; same-d = g .sized-i .same-d } in
           let zo : Sized (length keys) (side ue′ uv′ ut′ ud′ sa′ se sv st sd) = record { ends-e = lue ∙ g .sized-o .ends-e; long-v = luv ∙ g .sized-o .long-v; long-t = lut ∙ g .sized-o .long-t; long-d = lud ∙ g .sized-o .long-d; at-e = lsa ∙ g .sized-o .at-e; rest-e = g .sized-o .rest-e; same-t = g .sized-o .same-t; same-d = g .sized-o .same-d } in
           let a : j < k′ = w .later in
-          let b : k′ ≤ j + 16 = w .near in
+          let b : k′ ≤ j + 64 = w .near in
           record {
             asks = g .asks;
             most-is = g .most-is;

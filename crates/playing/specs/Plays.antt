@@ -1,7 +1,7 @@
 -- All rounds of a window by a collapsed replay.
 --
 -- bothAt: two lists of edits for each slot, one after the other
--- Renews: the meets of the moments from k on are kept, if k is past j. Renewed: they are, and k is past j
+-- Renews: the meets of the moments from each of the 64 before k on are kept, if k is past j. Renewed: they are, and k is past j
 -- Starts n most: nothing is held of a side of n slots, and at most `most` records are ahead. Begins: what all rounds ask
 use Prim.Native.Nat.{ℕ, _+_, _*_, _≤_, _<_, _^_}
 use mathlib.Core.Bool.{false}
@@ -19,7 +19,7 @@ use Rattle.moments.specs.Present.{edits}
 use Rattle.moments.specs.Window.{partsOf, Apart}
 use Rattle.correcting.specs.Settle.{LentFixes, LentSums}
 use Rattle.correcting.specs.declared.Settled.{Settled}
-use Rattle.rests.specs.Rests.{Timely, meetsAt, Meeting}
+use Rattle.rests.specs.Rests.{Timely, blocksAt, MeetingMany}
 
 unfoldable pub bothAt : List (List Edit) → List (List Edit) → List (List Edit)
 bothAt [] rs = []
@@ -28,16 +28,15 @@ bothAt (x ∷ xs) (r ∷ rs) = (x ++ r) ∷ bothAt xs rs
 
 -- ---- the meets of the moments that are left
 pub record Renews (j k : ℕ) (moments mends far : List ℕ) : Type 0 where
-  pub meeting : Meeting moments mends far
-  pub low : j < mostMoments
+  pub meeting : MeetingMany j moments mends far
   pub order : j ≤ k
-  pub near : k ≤ j + 16
-  pub kept : j < k → far ≡ meetsAt k (segments 0 mends moments)
+  pub near : k ≤ j + 64
+  pub kept : j < k → far ≡ blocksAt k (segments 0 mends moments)
 
 pub record Renewed (j k : ℕ) (ms : List (List ℕ)) (far : List ℕ) : Type 0 where
   pub later : j < k
-  pub near : k ≤ j + 16
-  pub far-is : far ≡ meetsAt k ms
+  pub near : k ≤ j + 64
+  pub far-is : far ≡ blocksAt k ms
 
 -- ---- all rounds
 pub record Starts (n most : ℕ) (ends at re rv rt : List ℕ) (rd : List ℤ) : Type 0 where
@@ -54,7 +53,7 @@ pub record Starts (n most : ℕ) (ends at re rv rt : List ℕ) (rd : List ℤ) :
 pub record Begins (keys moments mends re rv rt : List ℕ) (rd : List ℤ) (se sv st : List ℕ) (sd : List ℤ) (far ra xe xv xt : List ℕ) (xd : List ℤ) (sa ue uv ut : List ℕ) (ud : List ℤ) (iv : List ℕ) (id : List ℤ) (ov : List ℕ) (od : List ℤ) (cv : List ℕ) (cd : List ℤ) (fk fv ft : List ℕ) (fd : List ℤ) (p : Settled) : Type 0 where
   pub few : length keys ≤ 64
   pub same-m : length mends ≡ length keys
-  pub same-f : length far ≡ length keys
+  pub same-f : length far ≡ 64 * length keys
   pub cut-m : Cut (λ m. length m ≤ mostMoments) moments 0 mends
   pub input : Starts (length keys) 8192 xe ra re rv rt rd
   pub long-xv : length xv ≡ 8192

@@ -1,6 +1,6 @@
 // The rounds of a window by a collapsed replay, from the first to the last.
 use correcting::Settled;
-use rests::meets_from;
+use rests::blocks_from;
 use settling::goes_on;
 use settling::longest;
 use sides::replay_round;
@@ -12,7 +12,7 @@ ghost use Rattle.rounds.specs.Slots.{slotsOf, windowRows, windowCrossings};
 ghost use Rattle.correcting.specs.Settle.{Settles};
 ghost use Rattle.playing.specs.Plays.{Renews, Renewed, Begins};
 
-// Where j has come to k, takes the meets of the moments from a later one on anew. Says which that is.
+// Where j has come to k, takes the meets of the moments from each of the next 64 on. Says where these end.
 fn renew_far(j: usize, k: usize, moments: &[u64], mends: &[usize], far: &mut [u64]) -> usize
     requires { ⌜ Renews j k (now moments) (now mends) (now far) ⌝ }
     ensures { λ r. ⌜ Renewed j r (segments 0 (now (mends .entry)) (now (moments .entry))) (now (far .exit)) ⌝ }
@@ -20,9 +20,8 @@ fn renew_far(j: usize, k: usize, moments: &[u64], mends: &[usize], far: &mut [u6
     if j < k {
         return k;
     }
-    let l = j + 16;
-    meets_from(l, moments, mends, far);
-    l
+    blocks_from(j, moments, mends, far);
+    j + 64
 }
 
 // All rounds. At first the slots hold nothing.
