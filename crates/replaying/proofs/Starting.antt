@@ -2,6 +2,7 @@
 --
 -- ahead-begins: what the rounds over what is ahead ask. ahead-settled: what they leave
 use Prim.Native.Nat.{ℕ, zero, suc, _-_, _*_, _≤_, _^_}
+use native.Mathlib.Omega.{arith}
 use mathlib.Core.List.{List}
 use mathlib.Core.Path.{_≡_, refl, sym, _∙_, ap, subst}
 use lib.IntN.{ℤ, natAbs}
@@ -39,6 +40,12 @@ module _ {keys moments mends re rv rt : List ℕ} {rd : List ℤ} {se sv st : Li
   zeros-long : length z ≡ n
   zeros-long = first-length (replicate 64 0) (rw (length-replicate {A = ℕ} 64 0) (x .few))
 
+  abbrev far : List ℕ
+  far = take (64 * n - 0) (replicate 4096 0)
+
+  far-long : length far ≡ 64 * n
+  far-long = first-length (replicate 4096 0) (rw (length-replicate {A = ℕ} 4096 0) (let h : n ≤ 64 = x .few in omega arith))
+
   side-starts : {most : ℕ} {at₀ at te : List ℕ} (tv tt : List ℕ) (td : List ℤ) → Column at₀ 0 (startsOf 0 te) at (length te) → length te ≡ n → length tt ≡ length tv → length td ≡ length tv → Cut Timely (edits tv tt td) 0 te
       → length (whole (segments 0 te (edits tv tt td))) ≤ most → mass natAbs (whole (segments 0 te (edits tv tt td))) ≤ most * 2 ^ 31 → Starts n most z (take (n - 0) at) te tv tt td
   side-starts {most} {at = at} {te} tv tt td c le lt ld cut room light =
@@ -58,11 +65,11 @@ module _ {keys moments mends re rv rt : List ℕ} {rd : List ℤ} {se sv st : Li
 
   module _ {ra₀ ra sa₀ sa : List ℕ} (r : Column ra₀ 0 (startsOf 0 re) ra (length re)) (s : Column sa₀ 0 (startsOf 0 se) sa (length se)) where
     pub ahead-begins : {xv xt : List ℕ} {xd : List ℤ} → length xv ≡ 8192 → length xt ≡ 8192 → length xd ≡ 8192
-        → Begins keys moments mends re rv rt rd se sv st sd z (take (n - 0) ra) z xv xt xd (take (n - 0) sa) z uv ut ud iv id ov od cv cd fk fv ft fd p
+        → Begins keys moments mends re rv rt rd se sv st sd far (take (n - 0) ra) z xv xt xd (take (n - 0) sa) z uv ut ud iv id ov od cv cd fk fv ft fd p
     ahead-begins lv lt ld = record {
       few = x .few;
       same-m = x .same-m;
-      same-f = zeros-long;
+      same-f = far-long;
       cut-m = x .cut-m;
       input = side-starts rv rt rd r (x .same-r) (x .same-rt) (x .same-rd) (x .cut-r) (x .room-r) (x .light-r);
       long-xv = lv;

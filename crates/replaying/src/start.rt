@@ -44,7 +44,7 @@ fn settle_ahead(
     requires { ⌜ Ahead (now keys) (now moments) (now mends) (now re) (now rv) (now rt) (now rd) (now se) (now sv) (now st) (now sd) (now uv) (now ut) (now ud) (now iv) (now id) (now ov) (now od) (now cv) (now cd) (now fk) (now fv) (now ft) (now fd) p ⌝ }
     ensures { λ r. ⌜ Settles (windowRows mode mostMoments (slotsOf (now (keys .entry)) (segments 0 (now (re .entry)) (edits (now (rv .entry)) (now (rt .entry)) (now (rd .entry)))) (segments 0 (now (se .entry)) (edits (now (sv .entry)) (now (st .entry)) (now (sd .entry)))) (segments 0 (now (mends .entry)) (now (moments .entry))))) (windowCrossings mode mostMoments (slotsOf (now (keys .entry)) (segments 0 (now (re .entry)) (edits (now (rv .entry)) (now (rt .entry)) (now (rd .entry)))) (segments 0 (now (se .entry)) (edits (now (sv .entry)) (now (st .entry)) (now (sd .entry)))) (segments 0 (now (mends .entry)) (now (moments .entry))))) p r (now (fk .entry)) (now (fv .entry)) (now (ft .entry)) (now (fd .entry)) (now (fk .exit)) (now (fv .exit)) (now (ft .exit)) (now (fd .exit)) ⌝ }
 {
-    let mut far = [0u64; 64];
+    let mut far = [0u64; 4096];
     let mut ra = [0usize; 64];
     let mut xe = [0usize; 64];
     let mut xv = [0u64; 8192];
@@ -68,7 +68,7 @@ fn settle_ahead(
         sv,
         st,
         sd,
-        &mut far[0..n],
+        &mut far[0..64 * n],
         &mut ra[0..n],
         &mut xe[0..n],
         &mut xv,

@@ -26,6 +26,10 @@ slice-aggregate-starts-2 c = search needs
 starts-requires-2 : tie.Need-starts-requires-2
 starts-requires-2 c κs = search needs
 
+-- src/start.rt:71:22
+mul-replay-rounds : tie.Need-mul-replay-rounds
+mul-replay-rounds c = search needs
+
 -- src/start.rt:71:9
 sub-replay-rounds : tie.Need-sub-replay-rounds
 sub-replay-rounds c = search needs
@@ -166,6 +170,7 @@ settle-ahead-spec =
     starts-requires
     slice-aggregate-starts-2
     starts-requires-2
+    mul-replay-rounds
     sub-replay-rounds
     part-far-start
     part-far-end
