@@ -13,7 +13,7 @@ use Rattle.demands.specs.Answers.{Retires}
 use Rattle.demands.specs.Lending.{sizes}
 use Rattle.answers.specs.declared.Outcome.{Outcome}
 use Rattle.answering.specs.Replied.{Replied}
-use Rattle.exports.specs.Exported.{counted, Told, Untouched, Exported, Printed}
+use Rattle.exports.specs.Exported.{counted, Exported, Printed}
 
 pub written : (o : Outcome) (l : List ℕ) → 6 ≤ length l
     → set (set (set (set (set (set l 0 (o .status)) 1 (o .crossings)) 2 (o .tiles)) 3 (o .fixes)) 4 (o .pending)) 5 (o .frontier) ≡ counted o ++ drop 6 l

@@ -12,7 +12,7 @@
 -- WaveRun: what check 14 asks of a side, as a fact; of an accepted call both sides have it. good-run: the test and the fact
 -- WaveOutcome: an answer with its cause. wave-outcome: the call's answer has one. wave-outcome-only: an answer that has one is the call's
 -- Light: a history's diffs, ahead and in the buffer, are in all at most 2^30; it holds at load, and a step and an advance keep it
--- light-each: so each of them is at most 2^30. emitted-small: each emitted diff is at most 2^60
+-- emitted-small: each emitted diff is at most 2^60
 use Prim.Native.Nat.{ℕ, zero, suc, _+_, _*_, _^_, _≤_, _<_}
 use mathlib.Core.Bool.{Bool, true, false, cond, _&&_}
 use mathlib.Core.List.{List, [], _∷_, _++_, map, map-id}
@@ -337,9 +337,6 @@ light-stepped {h} l = record { most = omega (arith, l .most, mass-append natAbs 
 pub light-advanced : (h : ValueHistory) {k : ValueHistory} → Light k → Light (advancedBy h k)
 unfolding advancedBy
 light-advanced h {k} l = record { most = omega (arith, l .most, advance-mass sizing-natAbs (meets (map timeOf (h .ahead)) none) (k .buffer)) }
-
-pub light-each : {h : ValueHistory} → Light h → All (λ (e : Edit). natAbs (e .1) ≤ 2 ^ 30) (h .ahead ++ h .buffer)
-light-each {h} l = all-imp (λ e q. omega (arith, l .most, mass-append natAbs (h .ahead) (h .buffer))) (mass-each natAbs (h .ahead ++ h .buffer))
 
 pub emitted-small : {as′ bs : List Edit} → WaveRun as′ → WaveRun bs → All (λ (e : Emission). natAbs (e .1) ≤ 2 ^ 60) (waveOf as′ bs)
 emitted-small {as′} {bs} r s =

@@ -3,7 +3,7 @@
 -- rows-settled: the records of a window's rounds are a permutation of those of its slots' corrections
 -- crossings-settled: the rounds in which some slot crosses are those in which some key of the window crossed
 -- rowsMade: the records of the rounds of a slot. crossedIn: in which of them it crosses
--- rows-enough, crossings-enough: rounds past the last moment of every slot add nothing
+-- rows-enough: rounds past the last moment of every slot add nothing
 use Prim.Native.Nat.{ℕ, zero, suc, _+_, _≤_}
 use native.Mathlib.Omega.{arith}
 use mathlib.Core.Bool.{Bool, true, false, cond, _||_}
@@ -151,6 +151,3 @@ module _ (mode : ℕ) where
 
       within : length (roundsOf (map crossedIn ss)) ≤ n
       within = rw (rounds-longest (map crossedIn ss)) (longest-bound crossedIn n few)
-
-  pub crossings-enough : (m n : ℕ) → m ≤ n → {ss : List Slot} → All (λ (s : Slot). length (s .moments) ≤ m) ss → windowCrossings mode n ss ≡ windowCrossings mode m ss
-  crossings-enough m n l h = crossings-settled n (all-imp (λ s k. omega arith) h) ∙ sym (crossings-settled m h)
