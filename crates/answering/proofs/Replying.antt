@@ -34,7 +34,8 @@ use Rattle.writing.proofs.Standing.{resultsOf as laid}
 use Rattle.writing.proofs.Calls.{Printed, replied-bad, replied-asked}
 use Rattle.answers.specs.declared.Outcome.{Outcome}
 use Rattle.answering.specs.Replied.{Replied}
-use Rattle.answering.specs.Asking.{bytesOf, resultsOf, fronts, Holds, noMemory, Asks}
+use Rattle.telling.specs.Said.{resultsOf}
+use Rattle.answering.specs.Asking.{bytesOf, fronts, Holds, noMemory, Asks}
 
 -- ---- what is printed
 printed-replied : {text out out′ : List ℕ} {t : Text} {n : ℕ} → Printed text out out′ t → n ≡ bytesOf t → Replied text out out′ n

@@ -1,6 +1,6 @@
 -- What is known on the way from the bytes of a request to its reply.
 --
--- bytesOf: how many bytes were written. resultsOf: what a call says, as it is printed
+-- bytesOf: how many bytes were written
 -- fronts n c: the front of each column of a run
 -- Holds a r …: r answers what was asked, and so many entries of each column as r says are its list of the request
 -- Asks s l: the bytes s ask for the call that is lent l. noMemory: of which memory nothing is said
@@ -15,17 +15,12 @@ use Rattle.form.specs.Read.{Asked, asked, parse}
 use Rattle.reading.specs.declared.Request.{Request}
 use Rattle.reading.specs.Told.{part, answered, countsOf}
 use Rattle.reading.proofs.Lent.{columnsOf, lentOf}
-use Rattle.writing.specs.declared.Results.{Results}
 use Rattle.writing.specs.declared.Text.{Text}
 use Rattle.writing.specs.declared.Text.the-variants.{Short, Whole}
-use Rattle.answers.specs.declared.Outcome.{Outcome}
 
 abbrev pub bytesOf : Text → ℕ
 bytesOf Short = 0
 bytesOf (Whole n) = n
-
-abbrev pub resultsOf : Outcome → Results
-resultsOf o = record { status = o .status; crossings = o .crossings; tiles = o .tiles; fixes = o .fixes; pending = o .pending; frontier = o .frontier }
 
 abbrev pub fronts : ℕ → Columns → Columns
 fronts n c = record { keys = take n (c .keys); values = take n (c .values); times = take n (c .times); diffs = take n (c .diffs) }

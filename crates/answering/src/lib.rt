@@ -1,9 +1,8 @@
 // What is printed for the bytes of a request: the whole reply, whatever the bytes are. All memory of a call is local; the program runs in 4 MB of
 // stack.
-use answers::Outcome;
 use reading::Counts;
 use reading::Request;
-use writing::Results;
+use telling::results_of;
 use writing::Text;
 ghost use Prim.Native.Nat.{ℕ, _≤_};
 ghost use mathlib.Core.List.{List};
@@ -16,7 +15,7 @@ ghost use Rattle.checks.specs.Checks.{columns};
 ghost use Rattle.demands.specs.Lending.{lent};
 ghost use Rattle.reading.specs.declared.Request.the-variants.{Asked as IsAsked};
 ghost use Rattle.answering.specs.Replied.{Replied};
-ghost use Rattle.answering.specs.Asking.{bytesOf, resultsOf, Holds, noMemory, Asks};
+ghost use Rattle.answering.specs.Asking.{bytesOf, Holds, noMemory, Asks};
 
 // As many bytes as the longest reply has.
 pub const TEXT_SIZE: usize = 559238;
@@ -27,19 +26,6 @@ fn bytes_of(t: Text) -> usize
     match t {
         Text::Short => 0,
         Text::Whole(n) => n,
-    }
-}
-
-fn results_of(o: Outcome) -> Results
-    ensures { λ r. ⌜ r ≡ resultsOf o ⌝ }
-{
-    Results {
-        status: o.status,
-        crossings: o.crossings,
-        tiles: o.tiles,
-        fixes: o.fixes,
-        pending: o.pending,
-        frontier: o.frontier,
     }
 }
 

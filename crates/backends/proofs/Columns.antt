@@ -1,14 +1,14 @@
 -- Laws of columns, and the loop that appends to one.
 --
 -- less: two lengths are equal, where both lists have an element
--- drop-entries, take-entries, length-entries, getD-entries, values-entries: of two columns of one length
+-- length-entries, getD-entries, values-entries: of two columns of one length
 -- Writing before at goal xs k rest: of `goal`, to be appended at `at`, `rest` is still to be written, from k on
 -- writing-start, writing-more, writing-append, writing-is, writing-end: one entry written, many, none, all
 -- Filling, filling-*: the same of a column of values and one of diffs
 use Prim.Native.Nat.{ℕ, zero, suc, _+_, _<_}
 use native.Mathlib.Omega.{arith}
 use mathlib.Core.Path.{_≡_, refl, sym, _∙_, ap, subst}
-use mathlib.Core.List.{List, [], _∷_, _++_, append-nil, append-assoc, map-append}
+use mathlib.Core.List.{List, [], _∷_, _++_, append-nil, append-assoc}
 use lib.IntN.{ℤ, pos}
 use lib.ListN.{length, take, drop, getD, set, length-set, length-append}
 use lib.Seq.{drop-drop}
@@ -20,25 +20,6 @@ use Rattle.backends.specs.Columns.{entries, valuesOf, diffsOf, Column, A
 
 pub less : {a b : ℕ} → suc a ≡ suc b → a ≡ b
 less {a} {b} e = omega arith
-
-entries-none : (vs : List ℕ) → entries vs [] ≡ []
-unfolding entries
-entries-none [] = refl
-entries-none (v ∷ vs) = refl
-
-pub take-entries : (n : ℕ) (vs : List ℕ) (ds : List ℤ) → take n (entries vs ds) ≡ entries (take n vs) (take n ds)
-unfolding entries
-take-entries zero vs ds = refl
-take-entries (suc n) [] ds = refl
-take-entries (suc n) (v ∷ vs) [] = refl
-take-entries (suc n) (v ∷ vs) (d ∷ ds) = ap (λ l. (v, d) ∷ l) (take-entries n vs ds)
-
-pub drop-entries : (n : ℕ) (vs : List ℕ) (ds : List ℤ) → drop n (entries vs ds) ≡ entries (drop n vs) (drop n ds)
-unfolding entries
-drop-entries zero vs ds = refl
-drop-entries (suc n) [] ds = refl
-drop-entries (suc n) (v ∷ vs) [] = sym (entries-none (drop n vs))
-drop-entries (suc n) (v ∷ vs) (d ∷ ds) = drop-entries n vs ds
 
 pub length-entries : (vs : List ℕ) (ds : List ℤ) → length ds ≡ length vs → length (entries vs ds) ≡ length vs
 unfolding entries
@@ -124,13 +105,6 @@ module _ {vs₀ : List ℕ} {ds₀ : List ℤ} {at : ℕ} {goal : Sums} {vs : Li
 
   pub filling-more : (v : ℕ) (d : ℤ) {rest′ : Sums} → k < length vs → k < length ds → rest ≡ (v, d) ∷ rest′ → Filling vs₀ ds₀ at goal (set vs k v) (set ds k d) (k + 1) rest′
   filling-more v d h h′ e = record { values = writing-more (w .values) v h (ap valuesOf e); diffs = writing-more (w .diffs) d h′ (ap diffsOf e) }
-
-  pub filling-append : {new rest′ : Sums} {vs′ : List ℕ} {ds′ : List ℤ} {r : ℕ} → Appended vs ds k new vs′ ds′ r → length vs′ ≡ length vs → length ds′ ≡ length ds → rest ≡ new ++ rest′
-      → Filling vs₀ ds₀ at goal vs′ ds′ r rest′
-  filling-append {new} {rest′} a l l′ e = record {
-    values = writing-append (w .values) (a .values) l (ap valuesOf e ∙ map-append _ new rest′);
-    diffs = writing-append (w .diffs) (a .diffs) l′ (ap diffsOf e ∙ map-append _ new rest′);
-  }
 
   pub filling-end : rest ≡ [] → Appended vs₀ ds₀ at goal vs ds k
   filling-end e = record { values = writing-end (w .values) (ap valuesOf e); diffs = writing-end (w .diffs) (ap diffsOf e) }

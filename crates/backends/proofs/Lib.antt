@@ -4,4 +4,3 @@ pub mod Turns
 pub mod Walk
 pub mod Wanted
 pub mod Segments
-pub mod Together

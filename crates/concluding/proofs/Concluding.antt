@@ -14,7 +14,7 @@ use Rattle.grid.specs.Records.{Row}
 use Rattle.grid.proofs.Tests.{by-test}
 use Rattle.rules.specs.Call.{Request, changed, workAll, pendedAll, tooMany, call}
 use Rattle.rules.proofs.Statuses.{Works}
-use Rattle.rounds.specs.Slots.{rowsTooLarge}
+use Rattle.slots.specs.Slots.{rowsTooLarge}
 use Rattle.settled.specs.Call.{windowsOf, rowsOf, crossingsOf}
 use Rattle.settled.proofs.Through.{Through}
 use Rattle.settled.proofs.Answer.{answer-many, answer-large, answer-worked}

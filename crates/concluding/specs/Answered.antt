@@ -12,7 +12,7 @@ use Rattle.grid.specs.Times.{puts}
 use Rattle.rules.specs.Call.{Request, call}
 use Rattle.rules.specs.Memory.{numbersSize}
 use Rattle.rules.proofs.Statuses.{Works}
-use Rattle.finding.specs.Tallies.{mostInput, mostWindow}
+use Rattle.tallies.specs.Tallied.{mostInput, mostWindow}
 use Rattle.answers.specs.Tells.{Tells}
 use Rattle.answers.specs.declared.Outcome.{Outcome}
 use Rattle.turns.specs.Runs.{Runs, Good, Asked}

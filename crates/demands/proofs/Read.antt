@@ -1,7 +1,7 @@
 -- What a caller reads in memory after a call is the answer of the rules.
 --
 -- fixes-columns: a list is read from its columns. tiles-read: tiles are read from their numbers
--- numbers-read: the results are read from the two slices that hold them. answer-read: whatever the status
+-- answer-read: the results are read from the two slices that hold them, whatever the status
 -- retires-one: what a call says and leaves is fixed by what was lent
 use Prim.Native.Nat.{ℕ, zero, suc, _*_, _-_, _≤_}
 use mathlib.Core.Bool.{Bool, true, false, _&&_}

@@ -1,7 +1,7 @@
 -- A turn of the walk.
 --
 -- over-stop: a limit was passed. next-is: the least of the heads that the code reads is the next time. none-stop: nothing remains. calm: what a step asks
--- worked-kept, kept-on: what the columns keep, after a step. Long: the slices are as long as they were. long-start, long-more: the loop keeps that
+-- kept-on: what the columns keep, after a step. Long: the slices are as long as they were. long-start: the loop keeps that
 use Prim.Native.Nat.{ℕ, _-_, _≤_}
 use native.Mathlib.Omega.{arith}
 use native.Mathlib.Nat.{sub-zero}

@@ -3,7 +3,6 @@
 -- zero-read: a diff that was read from a column, and tested
 -- key-at: the key of the edit at a place, from the columns. length-keys: as many as there are times
 -- order-yes, order-no: the two tests make one
--- advance-consolidated: a consolidated buffer consolidates to itself
 use Prim.Native.Nat.{ℕ, zero, suc, _<_, _^_}
 use native.Mathlib.Omega.{arith}
 use mathlib.Core.Bool.{Bool, true, false, _&&_, not}

@@ -1,30 +1,20 @@
 -- The call as other languages make it.
 --
--- written: six numbers written one after another. export-short, export-long: what the call says with no room for counts, and with it
+-- export-short, export-long: what the call says with no room for counts, and with it
 -- print-short, print-long: what is printed with no room for the longest reply, and with it
 use Prim.Native.Nat.{ℕ, _≤_, _<_}
 use native.Mathlib.Omega.{arith}
-use mathlib.Core.List.{List, [], _∷_, _++_}
+use mathlib.Core.List.{List, _++_}
 use mathlib.Core.Path.{_≡_, refl}
-use lib.ListN.{length, drop, set}
+use lib.ListN.{length, drop}
 use Rattle.rules.specs.Memory.{Memory, Lent}
 use Rattle.form.proofs.Room.{mostText}
 use Rattle.demands.specs.Answers.{Retires}
 use Rattle.demands.specs.Lending.{sizes}
 use Rattle.answers.specs.declared.Outcome.{Outcome}
 use Rattle.answering.specs.Replied.{Replied}
-use Rattle.exports.specs.Exported.{counted, Exported, Printed}
-
-pub written : (o : Outcome) (l : List ℕ) → 6 ≤ length l
-    → set (set (set (set (set (set l 0 (o .status)) 1 (o .crossings)) 2 (o .tiles)) 3 (o .fixes)) 4 (o .pending)) 5 (o .frontier) ≡ counted o ++ drop 6 l
-unfolding counted
-written o [] h = absurd (omega arith)
-written o (a ∷ []) h = absurd (omega arith)
-written o (a ∷ b ∷ []) h = absurd (omega arith)
-written o (a ∷ b ∷ c ∷ []) h = absurd (omega arith)
-written o (a ∷ b ∷ c ∷ d ∷ []) h = absurd (omega arith)
-written o (a ∷ b ∷ c ∷ d ∷ e ∷ []) h = absurd (omega arith)
-written o (a ∷ b ∷ c ∷ d ∷ e ∷ f ∷ l) h = refl
+use Rattle.telling.specs.Said.{counted}
+use Rattle.exports.specs.Exported.{Exported, Printed}
 
 pub export-short : (l : Lent) (counts : List ℕ) → length counts < 6 → Exported l counts counts (l .memory) 11
 export-short l counts h = record { short = λ _. record { refused = refl; same-counts = refl; same-memory = refl }; long = λ k. absurd (omega (arith, h, k)) }

@@ -1,10 +1,9 @@
 -- The call as other languages make it: an outcome is a status and six numbers.
 --
--- counted: the six numbers of an outcome
 -- Exported l: the call that was lent l says r and counts, and leaves m; with no room for counts, 11, and all is untouched
 -- Printed text out out′ n: n bytes of text are at the front of out′; with no room for the longest text, none
 use Prim.Native.Nat.{ℕ, _≤_, _<_}
-use mathlib.Core.List.{List, [], _∷_, _++_}
+use mathlib.Core.List.{List, _++_}
 use mathlib.Core.Path.{_≡_}
 use lib.ListN.{length, drop}
 use Rattle.rules.specs.Memory.{Memory, Lent}
@@ -13,9 +12,7 @@ use Rattle.demands.specs.Answers.{Retires}
 use Rattle.demands.specs.Lending.{sizes}
 use Rattle.answers.specs.declared.Outcome.{Outcome}
 use Rattle.answering.specs.Replied.{Replied}
-
-unfoldable pub counted : Outcome → List ℕ
-counted o = o .status ∷ o .crossings ∷ o .tiles ∷ o .fixes ∷ o .pending ∷ o .frontier ∷ []
+use Rattle.telling.specs.Said.{counted}
 
 pub record Told (l : Lent) (counts counts′ : List ℕ) (m : Memory) (r : ℕ) : Type 0 where
   pub outcome : Outcome

@@ -1,23 +1,21 @@
 // The call for programs in Rust and C, and the line form: numbers and slices only. A slice crosses as its address and its length.
 use answering::TEXT_SIZE;
 use answering::answer;
-use answers::Outcome;
 use demands::COLUMN_SIZE;
 use demands::MOMENTS_SIZE;
 use results::DIFFS_SIZE;
 use results::NUMBERS_SIZE;
 use retire::retire;
+use telling::tell;
 ghost use mathlib.Core.Path.{_≡_};
 ghost use Prim.Native.Nat.{_≤_};
-ghost use lib.ListN.{length, drop};
-ghost use mathlib.Core.List.{_++_};
 ghost use Rattle.rules.specs.Memory.{numbersSize};
 ghost use Rattle.form.specs.Show.{reply};
 ghost use Rattle.form.proofs.Room.{mostText};
 ghost use Rattle.grid.specs.Records.{mostRecords};
 ghost use Rattle.checks.specs.Checks.{columns};
 ghost use Rattle.demands.specs.Lending.{memory, lent};
-ghost use Rattle.exports.specs.Exported.{counted, Exported, Printed};
+ghost use Rattle.exports.specs.Exported.{Exported, Printed};
 
 // How many numbers and how many diffs result memory has.
 #[no_mangle]
@@ -47,19 +45,6 @@ pub extern "C" fn daniskol_column_size() -> usize
     ensures { λ r. ⌜ r ≡ 8192 ⌝ }
 {
     COLUMN_SIZE
-}
-
-// Writes what a call says to six numbers.
-fn tell(r: Outcome, counts: &mut [u64])
-    requires { ⌜ 6 ≤ length (now counts) ⌝ }
-    ensures { λ _. ⌜ now (counts .exit) ≡ counted r ++ drop 6 (now (counts .entry)) ⌝ }
-{
-    counts[0] = r.status;
-    counts[1] = r.crossings;
-    counts[2] = r.tiles as u64;
-    counts[3] = r.fixes as u64;
-    counts[4] = r.pending as u64;
-    counts[5] = r.frontier as u64;
 }
 
 // The call. Returns its status, and writes status, crossings, and how many tiles, corrections, pending entries and frontier times there are to the

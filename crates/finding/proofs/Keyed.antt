@@ -3,8 +3,8 @@
 -- searched-parted: the columns of a search tell parts within the run. searched-spans: these parts
 -- reaches-past: later keys are found from where the search has ended
 -- window-found: so it is from the columns that the searches wrote
--- edits-keys: the parts of a run's columns are the edits of the keys. found-keys: what is found from the parts is what is found of each key
--- found-work: it is what the call's work finds. pended-work: and its pended times, each with its key, are those of the call's work.
+-- found-keys: what is found from the parts is what is found of each key
+-- pended-work: the pended times, each with its key, are those of the call's work
 -- window-moments: the moments of each key, by the ends of their segments
 use Prim.Native.Nat.{ℕ, suc, _+_, _-_, _≤_}
 use native.Mathlib.Omega.{arith}
@@ -23,16 +23,15 @@ use Rattle.grid.proofs.Consolidate.{strict-ltb}
 use Rattle.grid.proofs.Ascending.{ascending-above, ascending-rest}
 use Rattle.grid.proofs.Slices.{laid-front}
 use Rattle.rules.specs.Discover.{State, discover}
-use Rattle.rules.specs.Call.{Request, editsOf, work, pendedAll}
-use Rattle.edits.specs.Edits.{edits}
+use Rattle.rules.specs.Call.{Request, work, pendedAll}
 use Rattle.backends.specs.Crossing.{part, segments, ends, whole}
 use Rattle.keys.specs.Spans.{Reaches, Spans, Within, Level}
 use Rattle.keys.specs.declared.Span.{Span}
-use Rattle.keys.proofs.Spans.{spans-within, reaches-on, pending-part, edits-part, times-of}
-use Rattle.finding.specs.Searched.{fromAt, spanAt, spansFrom, endFrom, SearchRoom, Searched}
+use Rattle.keys.proofs.Spans.{spans-within, reaches-on, pending-part, edits-part}
+use Rattle.searches.specs.Searched.{fromAt, spanAt, spansFrom, endFrom, SearchRoom, Searched}
 use Rattle.finding.specs.Windowed.{stateAt, spansIn, fourfold, momentsOf, pendedRow, Parted, FindsWindow}
 use Rattle.finding.specs.Keyed.{foundAt}
-use Rattle.finding.specs.declared.Tally.{Tally}
+use Rattle.tallies.specs.declared.Tally.{Tally}
 
 spans-at : (run : List ℕ) (start k : ℕ) → Spans run start k (spanAt run start k)
 unfolding spanAt fromAt
@@ -83,16 +82,6 @@ module _ {run : List ℕ} {start : ℕ} {keys from to from′ to′ : List ℕ} 
         inside = rw (searched-spans, e) (spans-inside keys a h);
       }
 
--- ---- the parts of a run's columns
-pub edits-keys : {ks vs ts : List ℕ} {ds : List ℤ} → Level ks vs ts ds → {start : ℕ} (keys : List ℕ) → ascending ltb keys ≡ true → All (Reaches ks start) keys
-    → map (λ (s : Span). edits (part (s .from) (s .to) ts) (part (s .from) (s .to) vs) (part (s .from) (s .to) ds)) (spansFrom ks start keys) ≡ map (λ k. editsOf k (rows ks vs ts ds)) keys
-unfolding spansFrom
-edits-keys l [] a r = refl
-edits-keys {ks} l {start} (k ∷ keys) a r =
-    let e = edits-part l (head r) (spans-at ks start k) in
-    let ih = edits-keys l keys (ascending-rest ltb k keys a) (reaches-rest a r) in
-    λ i. e i ∷ ih i
-
 -- ---- what is found
 module _ (upper nk nt pk pt : List ℕ) {ik iv it : List ℕ} {id : List ℤ} (ok ot : List ℕ) (ln : length nt ≡ length nk) (lp : length pt ≡ length pk) (li : Level ik iv it id) (lo : length ot ≡ length ok) where
   abbrev found : ℕ → State
@@ -126,12 +115,6 @@ module _ (upper nk nt pk pt : List ℕ) {ik iv it : List ℕ} {id : List ℤ} (o
       (spansIn (take (length keys) if′) (take (length keys) ito)) (spansIn (take (length keys) of) (take (length keys) oto)) ≡ map found keys
   window-found {keys = keys} a rn rp ri ro mn n mp p mi i mo o =
       (λ z. fourfold (stateAt upper nt pt it iv id ot) (searched-spans mn n z) (searched-spans mp p z) (searched-spans mi i z) (searched-spans mo o z)) ∙ found-keys keys a rn rp ri ro
-
--- ---- the call's work
-pub found-work : (q : Request) (input : List Row) (k : ℕ) {nk nv nt : List ℕ} {nd : List ℤ} {ok ov ot : List ℕ} {od : List ℤ} → q .new ≡ rows nk nv nt nd → Level nk nv nt nd → q .out ≡ rows ok ov ot od → Level ok ov ot od
-    → work q input k .found ≡ foundAt (q .upper) (pairs nk nt) (q .pending) input (pairs ok ot) k
-unfolding work foundAt
-found-work q input k en ln eo lo = rw (en, eo, times-of ln k, times-of lo k)
 
 pub pended-work : (q : Request) (input : List Row) (ks : List ℕ) → pendedRow ks (map (λ k. work q input k .found) ks) ≡ pendedAll (map (work q input) ks)
 unfolding pendedRow pendedAll work

@@ -1,5 +1,3 @@
-pub mod Searching
-pub mod Appending
 pub mod Tallies
 pub mod Windowing
 pub mod Keyed

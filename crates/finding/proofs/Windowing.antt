@@ -35,7 +35,7 @@ use Rattle.keys.specs.Spans.{Within}
 use Rattle.keys.specs.declared.Span.{Span}
 use Rattle.finding.specs.Tallies.{Scratch, LentTally, LentSlot, slotOver, FindsSlot}
 use Rattle.finding.specs.Windowed.{spanIn, stateAt, LentRuns, LentSpans, spansIn, fourfold, momentsOf, pendedRow, firstsOf, secondsOf, windowOver, Parted, LentWindow, FindsWindow}
-use Rattle.finding.specs.declared.Tally.{Tally}
+use Rattle.tallies.specs.declared.Tally.{Tally}
 
 -- ---- parts of the diffs
 mass-take : (n : ℕ) (ds : List ℤ) → mass (take n ds) ≤ mass ds

@@ -1,5 +1,3 @@
-pub mod Searched
-pub mod Appends
 pub mod Tallies
 pub mod Windowed
 pub mod Keyed

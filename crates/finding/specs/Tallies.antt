@@ -1,12 +1,11 @@
 -- discover_times for the keys of a window, one after the other: their moments laid in a row, their pended times appended to the next pending list.
 -- 18: "for some key: over 1,024 moments … ; or over 4,096 pended in all".
 --
--- mostInput, mostWindow: the most records of the input, and the most moments of a window
 -- Scratch: memory that serves any key of a call. LentTally: memory in which the tally goes on. LentSlot: what one key's discovery asks
 -- Extends: a list was appended, in memory that is used past it
--- pendedCount, Counts, Tallied: what is counted of one key. slotOver: a limit was passed before, or by this key. FindsSlot: what one key's discovery leaves
+-- slotOver: a limit was passed before, or by this key. FindsSlot: what one key's discovery leaves
 use Prim.Native.Nat.{ℕ, suc, _+_, _≤_}
-use mathlib.Core.Bool.{Bool, false, cond, _||_}
+use mathlib.Core.Bool.{Bool, false, _||_}
 use mathlib.Core.List.{List, _++_}
 use mathlib.Core.Path.{_≡_}
 use lib.Dec.{ltb}
@@ -17,17 +16,9 @@ use Rattle.rules.specs.Discover.{mostMoments, State}
 use Rattle.consolidation.specs.Entries.{Lent}
 use Rattle.edits.specs.Edits.{Alike}
 use Rattle.backends.specs.Columns.{Column}
-use Rattle.discover.specs.declared.Found.{Found}
-use Rattle.finding.specs.Appends.{NextRoom}
-use Rattle.finding.specs.declared.Tally.{Tally}
-
--- the most records of the input: those of the old run and of the new one
-abbrev pub mostInput : ℕ
-mostInput = 8192
-
--- the most moments of a window
-abbrev pub mostWindow : ℕ
-mostWindow = 65536
+use Rattle.tallies.specs.Appends.{NextRoom}
+use Rattle.tallies.specs.Tallied.{mostInput, mostWindow}
+use Rattle.tallies.specs.declared.Tally.{Tally}
 
 pub record Scratch (seeds times values : List ℕ) (diffs : List ℤ) (output meets waiting tracked pended work places wvalues : List ℕ) (wdiffs : List ℤ) : Type 0 where
   pub seeds-room : mostRecords ≤ length seeds
@@ -64,21 +55,6 @@ pub record Extends {A : Type 0} (before : List A) (at : ℕ) (new after : List A
 
 unfoldable pub slotOver : Bool → ℕ → State → Bool
 slotOver over n D = over || (D .over || ltb mostRecords (n + length (D .pended)))
-
--- how many times a key has pended; none where a limit was passed
-unfoldable pub pendedCount : Found → ℕ
-pendedCount r = cond (r .over) 0 (r .pended)
-
-pub record Counts (p : Tally) (r : Found) : Type 0 where
-  pub before-few : p .moments ≤ mostWindow
-  pub found-few : r .over ≡ false → r .moments ≤ mostMoments
-
-pub record Tallied (p : Tally) (r : Found) (n : ℕ) (q : Tally) : Type 0 where
-  pub over-is : q .over ≡ (p .over || (r .over || ltb mostRecords n))
-  pub moments-few : q .moments ≤ p .moments + mostMoments
-  pub pended-few : p .pended ≤ mostRecords → q .pended ≤ mostRecords
-  pub moments-are : q .over ≡ false → q .moments ≡ p .moments + r .moments
-  pub pended-are : q .over ≡ false → (q .pended ≡ n) × (n ≤ mostRecords)
 
 pub record FindsSlot (D : State) (k : ℕ) (p : Tally) (moments nextkeys nexttimes moments′ nextkeys′ nexttimes′ : List ℕ) (r : Tally) : Type 0 where
   pub over-is : r .over ≡ slotOver (p .over) (p .pended) D

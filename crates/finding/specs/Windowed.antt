@@ -24,9 +24,9 @@ use Rattle.backends.specs.Columns.{Column}
 use Rattle.backends.specs.Crossing.{part, ends, whole}
 use Rattle.keys.specs.Spans.{Within}
 use Rattle.keys.specs.declared.Span.{Span}
-use Rattle.finding.specs.Appends.{NextRoom}
-use Rattle.finding.specs.Tallies.{mostInput, mostWindow}
-use Rattle.finding.specs.declared.Tally.{Tally}
+use Rattle.tallies.specs.Appends.{NextRoom}
+use Rattle.tallies.specs.Tallied.{mostInput, mostWindow}
+use Rattle.tallies.specs.declared.Tally.{Tally}
 
 abbrev pub spanIn : List ℕ → List ℕ → ℕ → Span
 spanIn from to b = record { from = getD from b 0; to = getD to b 0 }

@@ -1,7 +1,7 @@
 // The discovery of a window.
-use crate::Tally;
-use crate::slots::find_key;
+use crate::single::find_key;
 use keys::Span;
+use tallies::Tally;
 use times::KeyHash;
 ghost use mathlib.Core.Path.{_≡_};
 ghost use Prim.Native.Nat.{_<_};

@@ -1,6 +1,6 @@
 -- A fact of every element, under the operations on lists. `All` is a data type, so that antt finds the list and the fact in an argument's type.
 --
--- all-append, all-l, all-r; all-keep, keep-all, kept-all, all-split; all-insert, insert-all, all-sort, sort-all; all-map, map-all; all-put, put-all,
+-- all-append, all-l, all-r; all-keep, keep-all, kept-all; all-insert, insert-all, all-sort, sort-all; all-map, map-all; all-put, put-all,
 -- all-puts, puts-all: the fact goes through an operation (all-X), or comes back from its result (X-all)
 -- none-all, any-none, every-all, all-every: a test of no element, of every element. all-at: the fact, at one element.
 -- all-in: each element is one of the list. all-flat: of lists one after the other
@@ -63,13 +63,6 @@ module _ {A : Type 0} {P : A → Type 0} where
       by-test (f x)
       (λ e. let k : All P (x ∷ keep f xs) = rw e at h in cons (λ _. head k) (kept-all f xs (tail k)))
       (λ e. let k : All P (keep f xs) = rw e at h in cons (λ e′. clash (f x) e′ e) (kept-all f xs k))
-
-  pub all-split : (f : A → Bool) (xs : List A) → All P (keep f xs) → All P (keep (λ x. not (f x)) xs) → All P xs
-  all-split f [] h k = nil
-  all-split f (x ∷ xs) h k =
-      by-test (f x)
-      (λ e. let h′ : All P (x ∷ keep f xs) = rw e at h in let k′ : All P (keep (λ x. not (f x)) xs) = rw e at k in cons (head h′) (all-split f xs (tail h′) k′))
-      (λ e. let h′ : All P (keep f xs) = rw e at h in let k′ : All P (x ∷ keep (λ x. not (f x)) xs) = rw e at k in cons (head k′) (all-split f xs h′ (tail k′)))
 
   pub insert-all : (le : A → A → Bool) (x : A) (xs : List A) → All P (insert le x xs) → P x × All P xs
   insert-all le x [] h = (head h, tail h)

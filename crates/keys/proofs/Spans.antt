@@ -2,7 +2,7 @@
 --
 -- reaches-start, reaches-on: a search may begin at 0; and, for a greater key, where the part of the last one ends
 -- spans-within: the part lies within the run. keep-part: it holds the entries that have the key
--- times-part, values-part, diffs-part, edits-part, pending-part: so do the parts of the columns of a run, and of a pending list
+-- values-part, edits-part, pending-part: so do the parts of the columns of a run, and of a pending list
 -- times-of: a key's times in a run are those of the pairs of its keys and times
 use Prim.Native.Nat.{ℕ, _+_, _-_, _≤_, _<_}
 use native.Mathlib.Omega.{arith}
@@ -184,10 +184,6 @@ module _ {ks vs ts : List ℕ} {ds : List ℤ} (l : Level ks vs ts ds) where
 
     pub values-part : part (s .from) (s .to) vs ≡ map valueOf (keep (λ x. eqb k (x .key)) (rows ks vs ts ds))
     values-part = column-part valueOf (values-aligned in-line)
-
-    pub times-part : part (s .from) (s .to) ts ≡ timesOf k (rows ks vs ts ds)
-    unfolding timesOf
-    times-part = column-part timeOf (times-aligned in-line)
 
     pub edits-part : edits (part (s .from) (s .to) ts) (part (s .from) (s .to) vs) (part (s .from) (s .to) ds) ≡ editsOf k (rows ks vs ts ds)
     unfolding editsOf

@@ -28,8 +28,8 @@ use Rattle.keys.proofs.Spans.{keyOf, reaches-start, rows-keys}
 use Rattle.finding.specs.Windowed.{pendedRow, firstsOf, secondsOf, windowOver}
 use Rattle.finding.proofs.Keyed.{reaches-past}
 use Rattle.finding.proofs.Windowing.{over-append}
-use Rattle.rounds.specs.Slots.{rowsTooLarge, windowRows, windowCrossings}
-use Rattle.correcting.specs.Settle.{LentFixes}
+use Rattle.slots.specs.Slots.{rowsTooLarge, windowRows, windowCrossings}
+use Rattle.fixing.specs.Settle.{LentFixes}
 use Rattle.settled.specs.Call.{slotOf, windowsOf, rowsOf}
 use Rattle.settled.proofs.Through.{Through, through-start, through-more, through-large, through-rows, through-count}
 use Rattle.seeking.specs.Sought.{Reached}
@@ -224,10 +224,10 @@ module _ {R : Runs} {mode width : ℕ} {keys nk nt fk fv ft : List ℕ} {fd : Li
           ∙ ap (λ x. pairs (take (w .pended) nk) (take (w .pended) nt) ++ x) (sym row-here) ∙ L .next-is under
 
       abbrev new : List Row
-      new = windowRows mode mostMoments (map (slotAt R) window)
+      new = windowRows mode (map (slotAt R) window)
 
       abbrev crossed : ℕ
-      crossed = windowCrossings mode mostMoments (map (slotAt R) window)
+      crossed = windowCrossings mode (map (slotAt R) window)
 
       -- corrections that are not too large now were not so before
       fitted : r .large ≡ false → w .large ≡ false
@@ -237,14 +237,14 @@ module _ {R : Runs} {mode width : ℕ} {keys nk nt fk fv ft : List ℕ} {fd : Li
         fits-on : r .large ≡ false → r .fixes ≤ mostRecords
         fits-on h =
             let s = T .settles o (fitted h) in
-            let n : w .fixes + length new ≤ mostRecords = fixes-few (w .fixes) new (sym (s .large-is) ∙ h) in
-            omega (arith, s .grown h .fixes-are)
+            let n : w .fixes + length new ≤ mostRecords = fixes-few (w .fixes) new (sym (s .listed .large-is) ∙ h) in
+            omega (arith, s .listed .fixes-are h)
 
         counts-on : r .large ≡ false → r .crossings ≤ e * mostMoments
         counts-on h =
-            let c : r .crossings ≡ w .crossings + crossed = T .settles o (fitted h) .grown h .crossings-are in
+            let c : r .crossings ≡ w .crossings + crossed = T .settles o (fitted h) .crossings-are h in
             let b : w .crossings ≤ p * 1024 = L .counts under (fitted h) in
-            let m : crossed ≤ 1024 = crossings-few mode mostMoments (map (slotAt R) window) in
+            let m : crossed ≤ 1024 = crossings-few mode R (w .over) (w .pended) window (sym (T .over-is) ∙ o) in
             let i : p < e = (let x : p < length keys = before in let y : 1 ≤ width = l .wide in omega arith) in
             omega arith
 
@@ -261,11 +261,11 @@ module _ {R : Runs} {mode width : ℕ} {keys nk nt fk fv ft : List ℕ} {fd : Li
           slots-here : map (slotOf q) (part p e (changed q)) ≡ map (slotAt R) window
           slots-here = ap (λ ks. map (slotOf q) (part p e ks)) (a .keys-are) ∙ asked-slots (l .good) a window
 
-          rows-here : windowRows (q .mode) mostMoments (map (slotOf q) (part p e (changed q))) ≡ new
-          rows-here = let m = a .mode-is in let s = slots-here in λ i. windowRows (m i) mostMoments (s i)
+          rows-here : windowRows (q .mode) (map (slotOf q) (part p e (changed q))) ≡ new
+          rows-here = let m = a .mode-is in let s = slots-here in λ i. windowRows (m i) (s i)
 
-          crossed-here : windowCrossings (q .mode) mostMoments (map (slotOf q) (part p e (changed q))) ≡ crossed
-          crossed-here = let m = a .mode-is in let s = slots-here in λ i. windowCrossings (m i) mostMoments (s i)
+          crossed-here : windowCrossings (q .mode) (map (slotOf q) (part p e (changed q))) ≡ crossed
+          crossed-here = let m = a .mode-is in let s = slots-here in λ i. windowCrossings (m i) (s i)
 
           module _ (h : w .large ≡ false) where
             abbrev soFar : List Row
@@ -274,17 +274,17 @@ module _ {R : Runs} {mode width : ℕ} {keys nk nt fk fv ft : List ℕ} {fd : Li
             soFar-long : length soFar ≡ w .fixes
             soFar-long = rows-long (w .fixes) lent (L .fits under h)
 
-            large-here : rowsTooLarge (length soFar) (windowRows (q .mode) mostMoments (map (slotOf q) (part p e (changed q)))) ≡ r .large
-            large-here = (let n = soFar-long in let s = rows-here in λ i. rowsTooLarge (n i) (s i)) ∙ sym (T .settles o h .large-is)
+            large-here : rowsTooLarge (length soFar) (windowRows (q .mode) (map (slotOf q) (part p e (changed q)))) ≡ r .large
+            large-here = (let n = soFar-long in let s = rows-here in λ i. rowsTooLarge (n i) (s i)) ∙ sym (T .settles o h .listed .large-is)
 
             large-now : r .large ≡ true → rowsTooLarge 0 (rowsOf q (windowsOf q (changed q))) ≡ true
             large-now t = through-large (L .through under h q a) e wide end-is inside (large-here ∙ t)
 
             through-now : r .large ≡ false → Through q e (listed fk′ fv′ ft′ fd′ (r .fixes)) (r .crossings)
             through-now t =
-                let s = T .settles o h .grown t in
-                let x : soFar ++ windowRows (q .mode) mostMoments (map (slotOf q) (part p e (changed q))) ≡ listed fk′ fv′ ft′ fd′ (r .fixes) = ap (λ z. soFar ++ z) rows-here ∙ sym (s .rows-are) in
-                let y : w .crossings + windowCrossings (q .mode) mostMoments (map (slotOf q) (part p e (changed q))) ≡ r .crossings = ap (λ z. w .crossings + z) crossed-here ∙ sym (s .crossings-are) in
+                let s = T .settles o h in
+                let x : soFar ++ windowRows (q .mode) (map (slotOf q) (part p e (changed q))) ≡ listed fk′ fv′ ft′ fd′ (r .fixes) = ap (λ z. soFar ++ z) rows-here ∙ sym (s .listed .rows-are t) in
+                let y : w .crossings + windowCrossings (q .mode) (map (slotOf q) (part p e (changed q))) ≡ r .crossings = ap (λ z. w .crossings + z) crossed-here ∙ sym (s .crossings-are t) in
                 let z = through-more (L .through under h q a) e wide end-is inside (large-here ∙ t) in
                 rw (x, y) at z
 

@@ -12,9 +12,9 @@ use lib.ListN.{length, take}
 use Rattle.grid.specs.Lists.{any, ascending}
 use Rattle.grid.specs.Records.{Row, rows, pairs, mostRecords}
 use Rattle.rules.specs.Call.{Request, Done, changed, workAll, pendedAll}
-use Rattle.rounds.specs.Slots.{rowsTooLarge}
+use Rattle.slots.specs.Slots.{rowsTooLarge}
 use Rattle.settled.specs.Call.{windowsOf, rowsOf, crossingsOf}
-use Rattle.finding.specs.Tallies.{mostInput}
+use Rattle.tallies.specs.Tallied.{mostInput}
 use Rattle.answers.specs.declared.Course.{Course}
 use Rattle.progress.specs.declared.Progress.{Progress}
 use Rattle.turns.specs.Runs.{Runs, Good, Asked}

@@ -3,8 +3,6 @@ use answers::Course;
 use progress::Progress;
 ghost use Prim.Native.Nat.{_+_, _≤_, min};
 ghost use mathlib.Core.Path.{_≡_};
-ghost use mathlib.Core.Bool.{_&&_, not};
-ghost use lib.Dec.{ltb};
 ghost use Rattle.looping.specs.Looped.{courseOf};
 
 // Where the window of the keys from p on ends.
@@ -16,16 +14,6 @@ pub fn window_end(p: usize, width: usize, n: usize) -> usize
         return p + width;
     }
     n
-}
-
-// Whether there is a key from p on, and no limit was passed yet.
-pub fn goes_on(p: usize, n: usize, over: bool) -> bool
-    ensures { λ r. ⌜ r ≡ (not over && ltb p n) ⌝ }
-{
-    if over {
-        return false;
-    }
-    p < n
 }
 
 // What is told of the windows once they are done.

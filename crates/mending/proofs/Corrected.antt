@@ -1,202 +1,185 @@
 -- A window's rounds, from the memory and the progress of a call.
 --
--- settle-weighs: what choosing a way asks. settle-replays: what the collapsed replay asks
--- settle-room: result memory has room for their column of values. settle-lays: what laying the slots' output in a row asks
--- settle-within: the part for the ends lies within its array. settle-counts, settle-begins: what the rounds ask. settle-ends: what they give
--- past p s: a call that has come as far as p, and then settled a window to s
+-- span-steps: a cut in steps. settle-weighs: what choosing a way asks
+-- corrects-asks: what the rounds ask. corrects-steps, corrects-within, corrects-short, corrects-adds: what counting them asks
+-- past p s c: a call that has come as far as p, then settled a window to s and counted c rounds
 -- corrected-left: what a window leaves whose rounds are left out. corrected-done: what it leaves after its rounds
-use Prim.Native.Nat.{ℕ, _-_, _≤_, _<_, _^_}
+use Prim.Native.Nat.{ℕ, _+_, _-_, _≤_, _<_, _^_}
 use native.Mathlib.Omega.{arith}
 use native.Mathlib.Nat.{sub-zero}
-use mathlib.Core.Bool.{true, false, _||_}
-use mathlib.Core.List.{List}
+use mathlib.Core.Bool.{true, false, cond, _||_}
+use mathlib.Core.List.{List, [], _∷_}
 use mathlib.Core.Path.{_≡_, refl, sym, _∙_, ap, subst}
+use lib.Dec.{ltb}
 use lib.IntN.{ℤ}
-use lib.ListN.{length, take, replicate, length-replicate}
+use lib.ListN.{length, take, replicate, length-replicate, length-map, length-take}
 use lib.Seq.{length-take-le}
-use borrow.Rule.Slice.PartMut.{putMid, same-len-mid}
-use Rattle.grid.specs.Records.{mostRecords}
-use Rattle.grid.proofs.Tests.{clash, or-false-l, or-false-r}
+use borrow.Author.Tests.{ltb-false}
+use Rattle.grid.proofs.Tests.{by-test, clash, or-false-l, or-false-r}
+use Rattle.grid.proofs.Lists.{All, nil, cons}
 use Rattle.rules.specs.Histories.{Edit}
 use Rattle.rules.specs.Discover.{mostMoments}
-use Rattle.backends.specs.Crossing.{segments}
+use Rattle.rules.specs.Retire.{Round, settle}
+use Rattle.rules.proofs.Width.{settle-length}
+use Rattle.backends.specs.Crossing.{part, segments, Cut}
+use Rattle.backends.specs.Crossing as crossing
+use Rattle.backends.proofs.Segments.{part-length}
 use Rattle.moments.specs.Present.{edits}
 use Rattle.moments.specs.Window.{partsOf}
-use Rattle.moments.proofs.Orderly.{cut-more}
-use Rattle.rounds.specs.Slots.{slotsOf, windowRows, windowCrossings}
-use Rattle.correcting.specs.Back.{LaysOut, LaidOut}
-use Rattle.correcting.specs.Settle.{Settles, LentSums}
-use Rattle.correcting.specs.declared.Settled.{Settled}
-use Rattle.settling.specs.Rounds.{Rounds}
-use Rattle.settling.specs.Slotted.{Slotted}
-use Rattle.settling.proofs.Spanning.{span-steps}
-use Rattle.replaying.specs.Replays.{Replays}
-use Rattle.placing.proofs.Parts.{first-length, first-part}
+use Rattle.marks.specs.Marks.{markedAll, countOf, spanFrom, Steps, done, next}
+use Rattle.marks.proofs.Spanning.{span-least, span-most}
+use Rattle.marks.proofs.Counting.{marked-count, count-most}
+use Rattle.slots.specs.Slots.{Slot, slotsOf, slotRounds, crossedIn, windowCrossings}
+use Rattle.fixing.specs.Settle.{WindowSettled}
+use Rattle.fixing.specs.Windows.{LentRounds, Slotted}
+use Rattle.fixing.specs.declared.Settled.{Settled}
+use Rattle.fixing.proofs.Slotting.{crossedBy}
 use Rattle.progress.specs.declared.Progress.{Progress}
-use Rattle.mending.specs.Corrected.{settledOf, Wide, Corrects, Corrected, Weighs}
+use Rattle.mending.specs.Corrected.{Wide, Corrects, Corrected, Weighs}
 
-pub settle-room : {uv ut : List ℕ} {ud : List ℤ} {iv : List ℕ} {id : List ℤ} {ov : List ℕ} {od cd : List ℤ} {res : List ℕ} → Wide uv ut ud iv id ov od cd res → 16384 ≤ length res
-settle-room w = omega (arith, w .room-res)
+-- ---- the longest list of moments
+module _ {l : List ℕ} where
+  pub span-steps : {f : ℕ} {es : List ℕ} → Cut (λ m. length m ≤ mostMoments) l f es → Steps f es
+  span-steps crossing.done = done
+  span-steps (crossing.next {f} {e} a b p c) = next {f = f} {e = e} a (let n : length (part f e l) ≡ e - f = part-length f e l a b in omega arith) (span-steps c)
 
-module _ {keys moments mends fs es tv tt : List ℕ} {td : List ℤ} {ofs oes ovs ots : List ℕ} {ods : List ℤ} {fk fv ft : List ℕ} {fd : List ℤ} {p : Progress}
-    (x : Corrects keys moments mends fs es tv tt td ofs oes ovs ots ods fk fv ft fd p) where
-  abbrev n : ℕ
-  n = length keys
+  span-all : (m : ℕ) {f : ℕ} {es : List ℕ} → Cut (λ m. length m ≤ mostMoments) l f es → All (λ s. length s ≤ spanFrom m f es) (segments f es l)
+  unfolding spanFrom segments
+  span-all m crossing.done = nil
+  span-all m (crossing.next {f} {e} {es} a b p c) =
+      let k : ℕ = cond (ltb m (e - f)) (e - f) m in
+      let n : length (part f e l) ≡ e - f = part-length f e l a b in
+      let h : k ≤ spanFrom k e es = span-least k e es in
+      let g : e - f ≤ k = by-test (ltb m (e - f)) (λ q. rw q (omega arith)) (λ q. rw q (ltb-false m (e - f) q)) in
+      cons {x = part f e l} (omega arith) (span-all k c)
 
-  abbrev is : List (List Edit)
-  is = partsOf fs es (edits tv tt td)
-
-  abbrev os : List (List Edit)
-  os = partsOf ofs oes (edits ovs ots ods)
-
-  abbrev ms : List (List ℕ)
-  ms = segments 0 mends moments
-
-  pub settle-counts : (p .over || p .large) ≡ false → p .crossings < 2 ^ 60
-  settle-counts g = x .counts (or-false-l (p .over) (p .large) g) (or-false-r (p .over) (p .large) g)
-
-  pub settle-weighs : (p .over || p .large) ≡ false → Weighs mends fs es ofs oes
-  settle-weighs g =
-      let s : Slotted n moments mends fs es tv tt td = x .slotted (or-false-l (p .over) (p .large) g) in
-      let m : length mends ≡ n = s .same-m in
-      let f : n ≤ 64 = x .few in
-      record { few = omega arith; steps = span-steps (s .cut-m); same-e = s .same-e ∙ sym (s .same-f); same-oe = x .same-e ∙ sym (x .same-f) }
-
-  module _ {uv ut : List ℕ} {ud : List ℤ} {iv : List ℕ} {id : List ℤ} {ov : List ℕ} {od cd : List ℤ} {res : List ℕ} (w : Wide uv ut ud iv id ov od cd res) where
-    lent-sums : LentSums iv ov id od (take (16384 - 0) res) cd
-    lent-sums = let room : 20480 ≤ length res = w .room-res in record { long-iv = w .long-iv; long-ov = w .long-ov; long-id = w .long-id; long-od = w .long-od; long-cv = length-take-le (16384 - 0) res (omega arith); long-cd = w .long-cd }
-
-    pub settle-replays : (p .over || p .large) ≡ false → Replays keys moments mends fs es tv tt td ofs oes ovs ots ods uv ut ud iv id ov od (take (16384 - 0) res) cd fk fv ft fd (settledOf p)
-    settle-replays g =
-        let over : p .over ≡ false = or-false-l (p .over) (p .large) g in
-        let large : p .large ≡ false = or-false-r (p .over) (p .large) g in
-        record {
-          few = x .few;
-          slotted = x .slotted over;
-          light-in = x .in-light;
-          same-f = x .same-f;
-          same-e = x .same-e;
-          same-t = x .same-t;
-          same-d = x .same-d;
-          out-few = x .out-few;
-          out-apart = x .out-apart;
-          light-out = x .out-light;
-          long-v = w .long-uv;
-          long-t = w .long-ut;
-          long-d = w .long-ud;
-          fits = x .fits over large;
-          sums = lent-sums;
-          lent = x .lent;
-          counts = settle-counts g;
-          going = large;
-        }
-
-    -- the ends of the row, at first
-    abbrev ue : List ℕ
-    ue = replicate 64 0
-
-    ends-long : length (take (n - 0) ue) ≡ n
-    ends-long = first-length ue (rw (length-replicate {A = ℕ} 64 0) (x .few))
-
-    pub settle-lays : LaysOut ofs oes ovs ots ods (take (n - 0) ue) uv ut ud
-    settle-lays =
-        let f : length ofs ≡ n = x .same-f in
-        let h : n ≤ 64 = x .few in
-        let o : length ovs ≤ 4096 = x .out-few in
-        record {
-          lays = record {
-            few = omega arith;
-            same-e = x .same-e ∙ sym f;
-            apart = x .out-apart;
-            room-e = omega (arith, ends-long);
-            lays = record {
-              same-t = x .same-t;
-              same-d = x .same-d;
-              same-yt = w .long-ut ∙ sym (w .long-uv);
-              same-yd = w .long-ud ∙ sym (w .long-uv);
-              room = omega (arith, w .long-uv);
-            };
-          };
-          same-e = ends-long ∙ sym f;
-        }
-
-    module _ {ue′ uv′ ut′ : List ℕ} {ud′ : List ℤ} (long : length ue′ ≡ length (take (n - 0) ue)) (y : LaidOut os (length ovs) ue′ uv′ ut′ ud′) where
-      abbrev laid : List ℕ
-      laid = take (n - 0) (putMid 0 (n - 0) ue ue′)
-
-      pub settle-within : n ≤ length (putMid 0 (n - 0) ue ue′)
-      settle-within = rw (same-len-mid 0 (n - 0) ue ue′ long, length-replicate {A = ℕ} 64 0) (x .few)
-
-      ends-are : laid ≡ ue′
-      ends-are = ap (λ i. take i (putMid 0 (n - 0) ue ue′)) (sub-zero n) ∙ first-part ue ue′ (long ∙ ends-long)
-
-      pub settle-begins : (p .over || p .large) ≡ false → length uv′ ≡ length uv → length ut′ ≡ length ut → length ud′ ≡ length ud
-          → Rounds keys moments mends fs es tv tt td laid uv′ ut′ ud′ iv id ov od (take (16384 - 0) res) cd fk fv ft fd (settledOf p)
-      settle-begins g a b c =
-          let over : p .over ≡ false = or-false-l (p .over) (p .large) g in
-          let large : p .large ≡ false = or-false-r (p .over) (p .large) g in
-          let k : p .crossings < 2 ^ 60 = settle-counts g in
-          let o : length ovs ≤ mostRecords = x .out-few in
-          record {
-            slotted = x .slotted over;
-            out = record {
-              few = x .few;
-              ends-e = ap length ends-are ∙ long ∙ ends-long;
-              long-v = a ∙ w .long-uv;
-              long-t = b ∙ w .long-ut;
-              long-d = c ∙ w .long-ud;
-            };
-            sums = lent-sums;
-            lent = x .lent;
-            stands = rw ends-are (record { cut = cut-more (omega arith) (y .cut); end = omega (arith, y .end); fits = x .fits over large });
-            counts = omega arith;
-            going = large;
-          }
-
-      pub settle-ends : (mode : ℕ) {r : Settled} {fk′ fv′ ft′ : List ℕ} {fd′ : List ℤ}
-          → Settles (windowRows mode mostMoments (slotsOf keys is (segments 0 laid (edits uv′ ut′ ud′)) ms)) (windowCrossings mode mostMoments (slotsOf keys is (segments 0 laid (edits uv′ ut′ ud′)) ms)) (settledOf p) r fk fv ft fd fk′ fv′ ft′ fd′
-          → Settles (windowRows mode mostMoments (slotsOf keys is os ms)) (windowCrossings mode mostMoments (slotsOf keys is os ms)) (settledOf p) r fk fv ft fd fk′ fv′ ft′ fd′
-      settle-ends mode {r} {fk′} {fv′} {ft′} {fd′} s =
-          let e : segments 0 laid (edits uv′ ut′ ud′) ≡ os = ap (λ l. segments 0 l (edits uv′ ut′ ud′)) ends-are ∙ y .outputs-are in
-          subst (λ (z : List (List Edit)). Settles (windowRows mode mostMoments (slotsOf keys is z ms)) (windowCrossings mode mostMoments (slotsOf keys is z ms)) (settledOf p) r fk fv ft fd fk′ fv′ ft′ fd′) e s
+-- ---- a slot has as many rounds as moments
+crossed-short : (mode n : ℕ) (keys : List ℕ) (is os : List (List Edit)) (ms : List (List ℕ)) → All (λ m. length m ≤ n) ms → All (λ cs. length cs ≤ n) (crossedBy mode (slotsOf keys is os ms))
+unfolding slotsOf slotRounds
+crossed-short mode n [] is os ms a = nil
+crossed-short mode n (k ∷ keys) [] os ms a = nil
+crossed-short mode n (k ∷ keys) (i ∷ is) [] ms a = nil
+crossed-short mode n (k ∷ keys) (i ∷ is) (o ∷ os) [] a = nil
+crossed-short mode n (k ∷ keys) (i ∷ is) (o ∷ os) (m ∷ ms) (cons p a) =
+    let e : length (crossedIn (settle mode i o m)) ≡ length m = length-map (settle mode i o m) (λ (r : Round). r .crossed) ∙ settle-length mode i o m in
+    cons {x = crossedIn (settle mode i o m)} (omega arith) (crossed-short mode n keys is os ms a)
 
 -- ---- what a window leaves
-abbrev pub past : Progress → Settled → Progress
-past p s = record {
+abbrev pub past : Progress → Settled → ℕ → Progress
+past p s c = record {
   new = p .new;
   pending = p .pending;
   input = p .input;
   out = p .out;
   pended = p .pended;
   fixes = s .fixes;
-  crossings = s .crossings;
+  crossings = p .crossings + c;
   large = s .large;
   over = p .over;
 }
 
-module _ {mode : ℕ} {keys : List ℕ} {is os : List (List Edit)} {ms : List (List ℕ)} {p : Progress} {fk fv ft : List ℕ} {fd : List ℤ} where
-  pub corrected-left : (p .over || p .large) ≡ true → Corrected mode keys is os ms p p fk fv ft fd fk fv ft fd
-  corrected-left h = record {
-    new-same = refl;
-    pending-same = refl;
-    input-same = refl;
-    out-same = refl;
-    pended-same = refl;
-    over-same = refl;
-    stays-large = λ e. e;
-    settles = λ o l. clash (p .over || p .large) h (rw (o, l));
-  }
+pub corrected-left : {mode : ℕ} {keys : List ℕ} {is os : List (List Edit)} {ms : List (List ℕ)} {p : Progress} {fk fv ft : List ℕ} {fd : List ℤ} → (p .over || p .large) ≡ true → Corrected mode keys is os ms p p fk fv ft fd fk fv ft fd
+corrected-left {p = p} h = record {
+  new-same = refl;
+  pending-same = refl;
+  input-same = refl;
+  out-same = refl;
+  pended-same = refl;
+  over-same = refl;
+  stays-large = λ e. e;
+  settles = λ o l. clash (p .over || p .large) h (rw (o, l));
+}
 
-  pub corrected-done : (p .over || p .large) ≡ false → {s : Settled} {fk′ fv′ ft′ : List ℕ} {fd′ : List ℤ}
-      → Settles (windowRows mode mostMoments (slotsOf keys is os ms)) (windowCrossings mode mostMoments (slotsOf keys is os ms)) (settledOf p) s fk fv ft fd fk′ fv′ ft′ fd′
-      → Corrected mode keys is os ms p (past p s) fk fv ft fd fk′ fv′ ft′ fd′
-  corrected-done g s = record {
-    new-same = refl;
-    pending-same = refl;
-    input-same = refl;
-    out-same = refl;
-    pended-same = refl;
-    over-same = refl;
-    stays-large = λ e. clash (p .large) e (or-false-r (p .over) (p .large) g);
-    settles = λ o l. s;
-  }
+-- how many rounds are counted
+count-is : (mode n : ℕ) {moments mends : List ℕ} (keys : List ℕ) (is os : List (List Edit)) {marks : List ℕ} → Cut (λ m. length m ≤ mostMoments) moments 0 mends → n ≡ spanFrom 0 0 mends → n ≤ 1024
+    → marks ≡ markedAll (crossedBy mode (slotsOf keys is os (segments 0 mends moments))) (replicate 1024 0) → countOf (take (n - 0) marks) ≡ windowCrossings mode (slotsOf keys is os (segments 0 mends moments))
+unfolding windowCrossings
+count-is mode n {moments} {mends} keys is os {marks} c e h m =
+    let ss : List Slot = slotsOf keys is os (segments 0 mends moments) in
+    let a : All (λ s. length s ≤ n) (segments 0 mends moments) = subst (λ (k : ℕ). All (λ s. length s ≤ k) (segments 0 mends moments)) (sym e) (span-all 0 c) in
+    ap (λ k. countOf (take k marks)) (sub-zero n)
+    ∙ ap (λ l. countOf (take n l)) m
+    ∙ marked-count n (crossedBy mode ss) h (crossed-short mode n keys is os (segments 0 mends moments) a)
+
+-- ---- what is asked
+pub settle-weighs : {n : ℕ} {moments mends fs es tv tt : List ℕ} {td : List ℤ} {ofs oes xv xt : List ℕ} {xd : List ℤ} → Slotted n moments mends fs es tv tt td ofs oes xv xt xd → Weighs mends fs es ofs oes
+settle-weighs {n} {mends = mends} s =
+    let m : length mends ≡ n = s .same-m in
+    let f : n ≤ 64 = s .few in
+    record { few = omega arith; steps = span-steps (s .cut-m); same-e = s .same-e ∙ sym (s .same-f); same-oe = s .same-oe ∙ sym (s .same-of) }
+
+module _ {keys moments mends fs es tv tt : List ℕ} {td : List ℤ} {ofs oes xv xt : List ℕ} {xd : List ℤ} {fk fv ft : List ℕ} {fd : List ℤ} {p : Progress}
+    (x : Corrects keys moments mends fs es tv tt td ofs oes xv xt xd fk fv ft fd p) (g : (p .over || p .large) ≡ false) where
+  abbrev is : List (List Edit)
+  is = partsOf fs es (edits tv tt td)
+
+  abbrev os : List (List Edit)
+  os = partsOf ofs oes (edits xv xt xd)
+
+  abbrev ms : List (List ℕ)
+  ms = segments 0 mends moments
+
+  still : p .over ≡ false
+  still = or-false-l (p .over) (p .large) g
+
+  small : p .large ≡ false
+  small = or-false-r (p .over) (p .large) g
+
+  slotted : Slotted (length keys) moments mends fs es tv tt td ofs oes xv xt xd
+  slotted = x .slotted still
+
+  pub corrects-asks : {uv ut : List ℕ} {ud : List ℤ} {iv : List ℕ} {id : List ℤ} {ov : List ℕ} {od cd : List ℤ} {res : List ℕ} → Wide uv ut ud iv id ov od cd res
+      → Slotted (length keys) moments mends fs es tv tt td ofs oes xv xt xd × LentRounds uv ut ud iv id ov od (take (16384 - 0) res) cd (replicate 1024 0) fk fv ft fd (p .fixes)
+  corrects-asks {res = res} w =
+      let room : 20480 ≤ length res = w .room-res in (
+        slotted,
+        record {
+          long-uv = w .long-uv;
+          long-ut = w .long-ut;
+          long-ud = w .long-ud;
+          sums = record { long-iv = w .long-iv; long-ov = w .long-ov; long-id = w .long-id; long-od = w .long-od; long-cv = length-take-le (16384 - 0) res (omega arith); long-cd = w .long-cd };
+          long-marks = length-replicate {A = ℕ} 1024 0;
+          lent = x .lent;
+          fits = x .fits still small;
+        },
+      )
+
+  pub corrects-steps : Steps 0 mends
+  corrects-steps = span-steps (slotted .cut-m)
+
+  module _ {n : ℕ} (e : n ≡ spanFrom 0 0 mends) where
+    corrects-most : n ≤ 1024
+    corrects-most = let h : spanFrom 0 0 mends ≤ mostMoments = span-most 0 (omega arith) corrects-steps in omega arith
+
+    pub corrects-within : (marks : List ℕ) → length marks ≡ length (replicate {A = ℕ} 1024 0) → n ≤ length marks
+    corrects-within marks l = let h : n ≤ 1024 = corrects-most in omega (arith, l, length-replicate {A = ℕ} 1024 0)
+
+    corrects-front : (marks : List ℕ) → length (take (n - 0) marks) ≤ 1024
+    corrects-front marks = let h : n ≤ 1024 = corrects-most in rw length-take (omega arith)
+
+    pub corrects-short : (marks : List ℕ) → length (take (n - 0) marks) < 2 ^ 32
+    corrects-short marks = let h : length (take (n - 0) marks) ≤ 1024 = corrects-front marks in omega arith
+
+    module _ (marks : List ℕ) {c : ℕ} (q : c ≡ countOf (take (n - 0) marks)) where
+      corrects-few : c ≤ 1024
+      corrects-few =
+          let i : countOf (take (n - 0) marks) ≤ length (take (n - 0) marks) = count-most (take (n - 0) marks) in
+          let j : length (take (n - 0) marks) ≤ 1024 = corrects-front marks in
+          omega arith
+
+      pub corrects-adds : p .crossings + c < 2 ^ 64
+      corrects-adds = let h : c ≤ 1024 = corrects-few in let k : p .crossings < 2 ^ 60 = x .counts still small in omega arith
+
+      pub corrected-done : {mode : ℕ} {s : Settled} {fk′ fv′ ft′ : List ℕ} {fd′ : List ℤ}
+          → WindowSettled mode (slotsOf keys is os ms) (p .fixes) s (replicate 1024 0) marks fk fv ft fd fk′ fv′ ft′ fd′
+          → Corrected mode keys is os ms p (past p s c) fk fv ft fd fk′ fv′ ft′ fd′
+      corrected-done {mode} {s} d = record {
+        new-same = refl;
+        pending-same = refl;
+        input-same = refl;
+        out-same = refl;
+        pended-same = refl;
+        over-same = refl;
+        stays-large = λ h. clash (p .large) h small;
+        settles = λ o l. record { listed = d .listed; crossings-are = λ h. ap (λ k. p .crossings + k) (q ∙ count-is mode n keys is os (slotted .cut-m) e corrects-most (d .marks-are h)) };
+      }

@@ -1,27 +1,24 @@
 -- A window's turn, second half: its rounds, unless a limit was passed or the corrections are too large already.
 --
--- settledOf: what the rounds count. Corrects: what they ask. Corrected: what they leave. Weighs: what choosing between the two ways of settling them asks
-use Prim.Native.Nat.{ℕ, _*_, _≤_, _<_, _^_}
+-- Mended new crossed: `new` are appended to the four columns of corrections and `crossed` rounds are counted, or they are too large
+-- Wide: the memory of the rounds. Corrects: what they ask. Corrected: what they leave. Weighs: what choosing between the two ways of settling them asks
+use Prim.Native.Nat.{ℕ, _+_, _≤_, _<_, _^_}
 use mathlib.Core.Bool.{true, false}
 use mathlib.Core.List.{List}
 use mathlib.Core.Path.{_≡_}
-use lib.IntN.{ℤ, natAbs}
+use lib.IntN.{ℤ}
 use lib.ListN.{length}
-use Rattle.grid.specs.Records.{mostRecords}
-use Rattle.grid.proofs.Sizes.{mass}
+use Rattle.grid.specs.Records.{Row, mostRecords}
 use Rattle.rules.specs.Histories.{Edit}
-use Rattle.rules.specs.Discover.{mostMoments}
-use Rattle.moments.specs.Present.{edits}
-use Rattle.moments.specs.Window.{Apart, Orderly}
-use Rattle.rounds.specs.Slots.{slotsOf, windowRows, windowCrossings}
-use Rattle.correcting.specs.Settle.{Settles, LentFixes}
-use Rattle.correcting.specs.declared.Settled.{Settled}
-use Rattle.settling.specs.Slotted.{Slotted}
-use Rattle.settling.specs.Rounds.{Steps}
+use Rattle.marks.specs.Marks.{Steps}
+use Rattle.slots.specs.Slots.{slotsOf, windowRows, windowCrossings}
+use Rattle.fixing.specs.Settle.{Listed, LentFixes}
+use Rattle.fixing.specs.Windows.{Slotted}
 use Rattle.progress.specs.declared.Progress.{Progress}
 
-abbrev pub settledOf : Progress → Settled
-settledOf p = record { fixes = p .fixes; crossings = p .crossings; large = p .large }
+pub record Mended (new : List Row) (crossed : ℕ) (p r : Progress) (fk₀ fv₀ ft₀ : List ℕ) (fd₀ : List ℤ) (fk fv ft : List ℕ) (fd : List ℤ) : Type 0 where
+  pub listed : Listed new (p .fixes) (r .large) (r .fixes) fk₀ fv₀ ft₀ fd₀ fk fv ft fd
+  pub crossings-are : r .large ≡ false → r .crossings ≡ p .crossings + crossed
 
 -- the columns of the sums, and of the output with its corrections
 pub record Wide (uv ut : List ℕ) (ud : List ℤ) (iv : List ℕ) (id : List ℤ) (ov : List ℕ) (od cd : List ℤ) (res : List ℕ) : Type 0 where
@@ -36,16 +33,8 @@ pub record Wide (uv ut : List ℕ) (ud : List ℤ) (iv : List ℕ) (id : List �
   pub room-res : 20480 ≤ length res
 
 pub record Corrects (keys moments mends fs es tv tt : List ℕ) (td : List ℤ) (ofs oes ov ot : List ℕ) (od : List ℤ) (fk fv ft : List ℕ) (fd : List ℤ) (p : Progress) : Type 0 where
+  pub slotted : p .over ≡ false → Slotted (length keys) moments mends fs es tv tt td ofs oes ov ot od
   pub few : length keys ≤ 64
-  pub slotted : p .over ≡ false → Slotted (length keys) moments mends fs es tv tt td
-  pub same-f : length ofs ≡ length keys
-  pub same-e : length oes ≡ length keys
-  pub same-t : length ot ≡ length ov
-  pub same-d : length od ≡ length ov
-  pub out-few : length ov ≤ mostRecords
-  pub out-apart : Apart (Orderly mostRecords) (edits ov ot od) 0 ofs oes
-  pub in-light : mass natAbs (edits tv tt td) ≤ 8192 * 2 ^ 31
-  pub out-light : mass natAbs (edits ov ot od) ≤ mostRecords * 2 ^ 31
   pub lent : LentFixes fk fv ft fd
   pub fits : p .over ≡ false → p .large ≡ false → p .fixes ≤ mostRecords
   pub counts : p .over ≡ false → p .large ≡ false → p .crossings < 2 ^ 60
@@ -59,7 +48,7 @@ pub record Corrected (mode : ℕ) (keys : List ℕ) (is os : List (List Edit)) (
   pub pended-same : r .pended ≡ p .pended
   pub over-same : r .over ≡ p .over
   pub stays-large : p .large ≡ true → r .large ≡ true
-  pub settles : p .over ≡ false → p .large ≡ false → Settles (windowRows mode mostMoments (slotsOf keys is os ms)) (windowCrossings mode mostMoments (slotsOf keys is os ms)) (settledOf p) (settledOf r) fk fv ft fd fk′ fv′ ft′ fd′
+  pub settles : p .over ≡ false → p .large ≡ false → Mended (windowRows mode (slotsOf keys is os ms)) (windowCrossings mode (slotsOf keys is os ms)) p r fk fv ft fd fk′ fv′ ft′ fd′
 
 pub record Weighs (mends fs es ofs oes : List ℕ) : Type 0 where
   pub few : length mends ≤ 64

@@ -1,101 +1,20 @@
 // The rounds of a window, unless a limit was passed or the corrections are too large already.
-use correcting::Settled;
-use correcting::lay_outputs;
+use fixing::Settled;
+use marks::count_marks;
+use marks::longest;
+use plain::settle_plainly;
 use progress::Progress;
+use progress::is_done;
 use replaying::settle_replayed;
-use settling::longest;
-use settling::settle_window;
-ghost use mathlib.Core.Bool.{false, _||_};
 ghost use mathlib.Core.Path.{_≡_};
-ghost use Rattle.rules.specs.Discover.{mostMoments};
+ghost use lib.ListN.{length};
 ghost use Rattle.backends.specs.Crossing.{segments};
 ghost use Rattle.moments.specs.Present.{edits};
 ghost use Rattle.moments.specs.Window.{partsOf};
-ghost use Rattle.rounds.specs.Slots.{slotsOf, windowRows, windowCrossings};
-ghost use Rattle.correcting.specs.Settle.{Settles};
-ghost use lib.ListN.{length};
-ghost use Rattle.mending.specs.Corrected.{settledOf, Wide, Corrects, Corrected, Weighs};
-
-// Lays the slots' parts of the old output in a row, and settles the window's rounds by plain sums. The front of result memory serves as a column of values.
-fn settle_plainly(
-    mode: u64,
-    keys: &[u64],
-    moments: &[u64],
-    mends: &[usize],
-    from: &[usize],
-    to: &[usize],
-    tv: &[u64],
-    tt: &[u64],
-    td: &[i64],
-    ofrom: &[usize],
-    oto: &[usize],
-    outvalues: &[u64],
-    outtimes: &[u64],
-    outdiffs: &[i64],
-    uv: &mut [u64],
-    ut: &mut [u64],
-    ud: &mut [i64],
-    iv: &mut [u64],
-    id: &mut [i64],
-    ov: &mut [u64],
-    od: &mut [i64],
-    cd: &mut [i64],
-    fk: &mut [u64],
-    fv: &mut [u64],
-    ft: &mut [u64],
-    fd: &mut [i64],
-    res: &mut [u64],
-    p: Progress,
-) -> Settled
-    requires { ⌜ Wide (now uv) (now ut) (now ud) (now iv) (now id) (now ov) (now od) (now cd) (now res) ⌝ }
-    requires { ⌜ Corrects (now keys) (now moments) (now mends) (now from) (now to) (now tv) (now tt) (now td) (now ofrom) (now oto) (now outvalues) (now outtimes) (now outdiffs) (now fk) (now fv) (now ft) (now fd) p ⌝ }
-    requires { ⌜ (p .over || p .large) ≡ false ⌝ }
-    ensures { λ r. ⌜ Settles (windowRows mode mostMoments (slotsOf (now (keys .entry)) (partsOf (now (from .entry)) (now (to .entry)) (edits (now (tv .entry)) (now (tt .entry)) (now (td .entry)))) (partsOf (now (ofrom .entry)) (now (oto .entry)) (edits (now (outvalues .entry)) (now (outtimes .entry)) (now (outdiffs .entry)))) (segments 0 (now (mends .entry)) (now (moments .entry))))) (windowCrossings mode mostMoments (slotsOf (now (keys .entry)) (partsOf (now (from .entry)) (now (to .entry)) (edits (now (tv .entry)) (now (tt .entry)) (now (td .entry)))) (partsOf (now (ofrom .entry)) (now (oto .entry)) (edits (now (outvalues .entry)) (now (outtimes .entry)) (now (outdiffs .entry)))) (segments 0 (now (mends .entry)) (now (moments .entry))))) (settledOf p) r (now (fk .entry)) (now (fv .entry)) (now (ft .entry)) (now (fd .entry)) (now (fk .exit)) (now (fv .exit)) (now (ft .exit)) (now (fd .exit)) ⌝ }
-{
-    let mut ue = [0usize; 64];
-    let n = keys.len();
-    lay_outputs(
-        ofrom,
-        oto,
-        outvalues,
-        outtimes,
-        outdiffs,
-        &mut ue[0..n],
-        uv,
-        ut,
-        ud,
-    );
-    settle_window(
-        mode,
-        keys,
-        moments,
-        mends,
-        from,
-        to,
-        tv,
-        tt,
-        td,
-        &mut ue[0..n],
-        uv,
-        ut,
-        ud,
-        iv,
-        id,
-        ov,
-        od,
-        &mut res[0..16384],
-        cd,
-        fk,
-        fv,
-        ft,
-        fd,
-        Settled {
-            fixes: p.fixes,
-            crossings: p.crossings as usize,
-            large: p.large,
-        },
-    )
-}
+ghost use Rattle.slots.specs.Slots.{slotsOf};
+ghost use Rattle.fixing.specs.Settle.{WindowSettled};
+ghost use Rattle.fixing.specs.Windows.{LentRounds, Slotted};
+ghost use Rattle.mending.specs.Corrected.{Wide, Corrects, Corrected, Weighs};
 
 // From where the first part begins to where the last one ends.
 fn extent(from: &[usize], to: &[usize]) -> usize
@@ -156,18 +75,17 @@ fn settle(
     id: &mut [i64],
     ov: &mut [u64],
     od: &mut [i64],
+    cv: &mut [u64],
     cd: &mut [i64],
+    marks: &mut [u8],
     fk: &mut [u64],
     fv: &mut [u64],
     ft: &mut [u64],
     fd: &mut [i64],
-    res: &mut [u64],
-    p: Progress,
+    fixes: usize,
 ) -> Settled
-    requires { ⌜ Wide (now uv) (now ut) (now ud) (now iv) (now id) (now ov) (now od) (now cd) (now res) ⌝ }
-    requires { ⌜ Corrects (now keys) (now moments) (now mends) (now from) (now to) (now tv) (now tt) (now td) (now ofrom) (now oto) (now outvalues) (now outtimes) (now outdiffs) (now fk) (now fv) (now ft) (now fd) p ⌝ }
-    requires { ⌜ (p .over || p .large) ≡ false ⌝ }
-    ensures { λ r. ⌜ Settles (windowRows mode mostMoments (slotsOf (now (keys .entry)) (partsOf (now (from .entry)) (now (to .entry)) (edits (now (tv .entry)) (now (tt .entry)) (now (td .entry)))) (partsOf (now (ofrom .entry)) (now (oto .entry)) (edits (now (outvalues .entry)) (now (outtimes .entry)) (now (outdiffs .entry)))) (segments 0 (now (mends .entry)) (now (moments .entry))))) (windowCrossings mode mostMoments (slotsOf (now (keys .entry)) (partsOf (now (from .entry)) (now (to .entry)) (edits (now (tv .entry)) (now (tt .entry)) (now (td .entry)))) (partsOf (now (ofrom .entry)) (now (oto .entry)) (edits (now (outvalues .entry)) (now (outtimes .entry)) (now (outdiffs .entry)))) (segments 0 (now (mends .entry)) (now (moments .entry))))) (settledOf p) r (now (fk .entry)) (now (fv .entry)) (now (ft .entry)) (now (fd .entry)) (now (fk .exit)) (now (fv .exit)) (now (ft .exit)) (now (fd .exit)) ⌝ }
+    requires { ⌜ Slotted (length (now keys)) (now moments) (now mends) (now from) (now to) (now tv) (now tt) (now td) (now ofrom) (now oto) (now outvalues) (now outtimes) (now outdiffs) × LentRounds (now uv) (now ut) (now ud) (now iv) (now id) (now ov) (now od) (now cv) (now cd) (now marks) (now fk) (now fv) (now ft) (now fd) fixes ⌝ }
+    ensures { λ r. ⌜ WindowSettled mode (slotsOf (now (keys .entry)) (partsOf (now (from .entry)) (now (to .entry)) (edits (now (tv .entry)) (now (tt .entry)) (now (td .entry)))) (partsOf (now (ofrom .entry)) (now (oto .entry)) (edits (now (outvalues .entry)) (now (outtimes .entry)) (now (outdiffs .entry)))) (segments 0 (now (mends .entry)) (now (moments .entry)))) fixes r (now (marks .entry)) (now (marks .exit)) (now (fk .entry)) (now (fv .entry)) (now (ft .entry)) (now (fd .entry)) (now (fk .exit)) (now (fv .exit)) (now (ft .exit)) (now (fd .exit)) ⌝ }
 {
     if pays_to_replay(mends, from, to, ofrom, oto) {
         return settle_replayed(
@@ -192,17 +110,14 @@ fn settle(
             id,
             ov,
             od,
-            &mut res[0..16384],
+            cv,
             cd,
+            marks,
             fk,
             fv,
             ft,
             fd,
-            Settled {
-                fixes: p.fixes,
-                crossings: p.crossings as usize,
-                large: p.large,
-            },
+            fixes,
         );
     }
     settle_plainly(
@@ -227,27 +142,19 @@ fn settle(
         id,
         ov,
         od,
+        cv,
         cd,
+        marks,
         fk,
         fv,
         ft,
         fd,
-        res,
-        p,
+        fixes,
     )
 }
 
-// Whether a window's rounds are left out: once a limit is passed or the corrections are too large, no round can change the answer.
-fn is_done(p: Progress) -> bool
-    ensures { λ r. ⌜ r ≡ (p .over || p .large) ⌝ }
-{
-    if p.over {
-        return true;
-    }
-    p.large
-}
-
-// Settles a window's rounds: its corrections are appended to those so far, and the rounds in which a key crossed are counted.
+// Settles a window's rounds: its corrections are appended to those so far, and the rounds in which a key crossed are counted. The front of result memory
+// serves as a column of values.
 pub fn correct_window(
     mode: u64,
     keys: &[u64],
@@ -285,6 +192,7 @@ pub fn correct_window(
     if is_done(p) {
         return p;
     }
+    let mut marks = [0u8; 1024];
     let s = settle(
         mode,
         keys,
@@ -307,14 +215,17 @@ pub fn correct_window(
         id,
         ov,
         od,
+        &mut res[0..16384],
         cd,
+        &mut marks,
         fk,
         fv,
         ft,
         fd,
-        res,
-        p,
+        p.fixes,
     );
+    let n = longest(mends);
+    let c = count_marks(&marks[0..n]);
     Progress {
         new: p.new,
         pending: p.pending,
@@ -322,7 +233,7 @@ pub fn correct_window(
         out: p.out,
         pended: p.pended,
         fixes: s.fixes,
-        crossings: s.crossings as u64,
+        crossings: p.crossings + c as u64,
         large: s.large,
         over: p.over,
     }

@@ -4,4 +4,3 @@ pub mod Passing
 pub mod Orderly
 pub mod Seen
 pub mod Showing
-pub mod Taking

@@ -1,13 +1,12 @@
 -- Edits in order whose diffs are together no larger than those of n records: no larger than those of more.
 --
--- orderly-more: that. apart-more, cut-more: of parts that lie apart, of segments in a row
+-- orderly-more: that. apart-more: of parts that lie apart
 use Prim.Native.Nat.{ℕ, _*_, _≤_, _^_}
 use native.Mathlib.Omega.{arith}
 use mathlib.Core.List.{List}
 use lib.IntN.{natAbs}
 use Rattle.grid.proofs.Sizes.{mass}
 use Rattle.rules.specs.Histories.{Edit}
-use Rattle.backends.specs.Crossing.{Cut}
 use Rattle.backends.specs.Crossing as crossing
 use Rattle.moments.specs.Window.{Apart, Orderly}
 use Rattle.moments.specs.Window as window
@@ -18,7 +17,3 @@ orderly-more {n} {m} {es} h o = record { ascends = o .ascends; light = (let l : 
 pub apart-more : {n m : ℕ} {l : List Edit} {k : ℕ} {fs es : List ℕ} → n ≤ m → Apart (Orderly n) l k fs es → Apart (Orderly m) l k fs es
 apart-more h window.done = window.done
 apart-more h (window.next {k} {f} a b c p r) = window.next {k = k} {f = f} a b c (orderly-more h p) (apart-more h r)
-
-pub cut-more : {n m : ℕ} {l : List Edit} {f : ℕ} {es : List ℕ} → n ≤ m → Cut (Orderly n) l f es → Cut (Orderly m) l f es
-cut-more h crossing.done = crossing.done
-cut-more h (crossing.next {f} a b p c) = crossing.next {f = f} a b (orderly-more h p) (cut-more h c)

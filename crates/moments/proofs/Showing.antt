@@ -1,18 +1,15 @@
--- The loop over the slots of a window.
+-- Parts of three columns that lie apart.
 --
 -- edits-values, edits-at: of three columns of one length. part-edits: a part of them
 -- apart-next, parts-next: what lies apart, its first part and the others. apart-past: it begins at or past any smaller place
--- Showing: the slots before b are shown, and what is seen of them ends at k. showing-start, show-live, show-none, showing-end: the loop keeps that
--- in-to, in-live, in-moments, in-ends, bounds, shows: what a turn asks
+-- laid-part: an orderly part is laid
 use Prim.Native.Nat.{ℕ, zero, suc, _+_, _-_, _*_, _<_, _≤_, _^_}
 use native.Mathlib.Omega.{arith}
-use mathlib.Core.Bool.{cond}
 use mathlib.Core.Path.{_≡_, refl, sym, _∙_, ap, subst}
 use mathlib.Core.List.{List, [], _∷_, map}
-use lib.Dec.{leb, eqb}
+use lib.Dec.{leb}
 use lib.IntN.{ℤ, pos, natAbs}
-use lib.ListN.{length, take, drop, getD, set, drop-of-length-le, length-map}
-use borrow.Author.Tests.{eq-eqb, ne-eqb}
+use lib.ListN.{length, take, drop, getD, length-map}
 use Rattle.grid.specs.Lists.{keep}
 use Rattle.grid.specs.Times.{below}
 use Rattle.grid.proofs.Lists.{All, all-imp, all-map, keep-length}
@@ -21,15 +18,13 @@ use Rattle.grid.proofs.Sort.{Sorted}
 use Rattle.grid.proofs.Sizes.{mass, mass-each}
 use Rattle.grid.proofs.Operations.{no-length}
 use Rattle.rules.specs.Histories.{Edit, timeOf, valueOf}
-use Rattle.rules.specs.Backends.{Sums}
 use Rattle.rules.specs.Retire.{seen}
 use Rattle.diffs.specs.Diffs.{modest}
-use Rattle.backends.specs.Columns.{Column, Appended}
-use Rattle.backends.specs.Crossing.{part, ends, whole, LaidInRow}
-use Rattle.backends.proofs.Columns.{less, Writing, writing-start, writing-more, writing-end, Filling, filling-start, filling-append, filling-is, filling-end}
-use Rattle.backends.proofs.Segments.{part-length, ends-next, length-ends, consolidate-length}
-use Rattle.moments.specs.Present.{edits, Laid, Shows}
-use Rattle.moments.specs.Window.{partsOf, Apart, done, next, Orderly, seenAt, Window}
+use Rattle.backends.specs.Crossing.{part}
+use Rattle.backends.proofs.Columns.{less}
+use Rattle.backends.proofs.Segments.{part-length, consolidate-length}
+use Rattle.moments.specs.Present.{edits, Laid}
+use Rattle.moments.specs.Window.{partsOf, Apart, done, next, Orderly}
 use Rattle.moments.proofs.Shown.{shown}
 
 -- ---- three columns
@@ -142,132 +137,4 @@ laid-part f e vs ts ds a b s h k o =
       short = omega arith;
       ascends = subst (Sorted leb) (edits-values (part f e vs) (part f e ts) (part f e ds) (q ∙ sym p) (r ∙ sym p)) (u .ascends);
       small = subst (All modest) (edits-diffs (part f e vs) (part f e ts) (part f e ds) (q ∙ sym p) (r ∙ sym p)) (all-map {P = modest} (λ (y : Edit). y .1) (modest-edits (edits (part f e vs) (part f e ts) (part f e ds)) (u .light)));
-    }
-
--- ---- the loop
-module _ (live moments fs es vs ts : List ℕ) (ds : List ℤ) where
-  -- what is seen from slot b on
-  abbrev pub left : ℕ → List Sums
-  left b = seenAt (drop b live) (drop b moments) (partsOf (drop b fs) (drop b es) (edits vs ts ds))
-
-pub record Showing (live moments fs es vs ts : List ℕ) (ds : List ℤ) (se₀ sv₀ : List ℕ) (sd₀ : List ℤ) (se sv : List ℕ) (sd : List ℤ) (b k : ℕ) : Type 0 where
-  pub asks : Window live moments fs es vs ts ds se₀ sv₀ sd₀
-  pub bn : b ≤ length fs
-  pub apart : Apart (Orderly 8192) (edits vs ts ds) k (drop b fs) (drop b es)
-  pub row : Filling sv₀ sd₀ 0 (whole (left live moments fs es vs ts ds 0)) sv sd k (whole (left live moments fs es vs ts ds b))
-  pub row-ends : Writing se₀ 0 (ends 0 (left live moments fs es vs ts ds 0)) se b (ends k (left live moments fs es vs ts ds b))
-
-pub showing-start : {live moments fs es vs ts : List ℕ} {ds : List ℤ} {se sv : List ℕ} {sd : List ℤ} → Window live moments fs es vs ts ds se sv sd → Showing live moments fs es vs ts ds se sv sd se sv sd 0 0
-showing-start {live} {moments} {fs} {es} {vs} {ts} {ds} {se} {sv} {sd} a = record {
-  asks = a;
-  bn = omega arith;
-  apart = a .apart;
-  row = filling-start sv sd 0 (whole (left live moments fs es vs ts ds 0));
-  row-ends = writing-start se 0 (ends 0 (left live moments fs es vs ts ds 0));
-}
-
-module _ {live moments fs es vs ts : List ℕ} {ds : List ℤ} {se₀ sv₀ : List ℕ} {sd₀ : List ℤ} {se sv : List ℕ} {sd : List ℤ} {b k : ℕ}
-    (m : Showing live moments fs es vs ts ds se₀ sv₀ sd₀ se sv sd b k) (h : b < length fs) where
-  abbrev f : ℕ
-  f = getD fs b 0
-
-  abbrev e : ℕ
-  e = getD es b 0
-
-  abbrev t : ℕ
-  t = getD moments b 0
-
-  pub in-to : b < length es
-  in-to = let q : length es ≡ length fs = m .asks .same-e in omega arith
-
-  pub in-live : b < length live
-  in-live = let q : length live ≡ length fs = m .asks .same-l in omega arith
-
-  pub in-moments : b < length moments
-  in-moments = let q : length moments ≡ length fs = m .asks .same-m in omega arith
-
-  pub in-ends : b < length se
-  in-ends =
-      let q : length fs ≤ length se₀ = m .asks .room-e in
-      let l : length se ≡ length se₀ = m .row-ends .same in
-      omega arith
-
-  here : (k ≤ f) × ((f ≤ e) × ((e ≤ length (edits vs ts ds)) × (Orderly 8192 (part f e (edits vs ts ds)) × Apart (Orderly 8192) (edits vs ts ds) e (drop (b + 1) fs) (drop (b + 1) es))))
-  here = apart-next fs es b h in-to (m .apart)
-
-  pub bounds : (f ≤ e) × ((e ≤ length vs) × ((e ≤ length ts) × (e ≤ length ds)))
-  bounds =
-      let a : e ≤ length (edits vs ts ds) = here .1 .1 .0 in
-      let c : length (edits vs ts ds) ≤ length vs = edits-length vs ts ds in
-      let p : length ts ≡ length vs = m .asks .same-t in
-      let q : length ds ≡ length vs = m .asks .same-d in
-      (here .1 .0, (omega arith, (omega arith, omega arith)))
-
-  pub shows : Shows (part f e vs) (part f e ts) (part f e ds) sv sd k
-  shows =
-      let a1 : f ≤ e = bounds .0 in
-      let a2 : e ≤ length vs = bounds .1 .0 in
-      let p : length (part f e vs) ≡ e - f = part-length f e vs a1 a2 in
-      let s : k ≤ f = here .0 in
-      let u : length vs ≤ length sv₀ = m .asks .room in
-      let lv : length sv ≡ length sv₀ = m .row .values .same in
-      let ld : length sd ≡ length sd₀ = m .row .diffs .same in
-      record {
-        laid = laid-part f e vs ts ds (m .asks .same-t) (m .asks .same-d) (m .asks .short) a1 a2 (here .1 .1 .1 .0);
-        same = ld ∙ m .asks .same-s ∙ sym lv;
-        room = omega arith;
-      }
-
-  split : left live moments fs es vs ts ds b ≡ cond (eqb (getD live b 0) 1) (seen t (part f e (edits vs ts ds))) [] ∷ left live moments fs es vs ts ds (b + 1)
-  unfolding seenAt
-  split = λ z. seenAt (drop-more live b 0 in-live z) (drop-more moments b 0 in-moments z) (parts-next fs es (edits vs ts ds) b h in-to z)
-
-  next-slot : (l : Sums) (sv′ : List ℕ) (sd′ : List ℤ) (r : ℕ) → length sv′ ≡ length sv → length sd′ ≡ length sd → r ≤ e → r ≡ k + length l
-      → left live moments fs es vs ts ds b ≡ l ∷ left live moments fs es vs ts ds (b + 1)
-      → Filling sv₀ sd₀ 0 (whole (left live moments fs es vs ts ds 0)) sv′ sd′ r (whole (left live moments fs es vs ts ds (b + 1)))
-      → Showing live moments fs es vs ts ds se₀ sv₀ sd₀ (set se b r) sv′ sd′ (b + 1) r
-  next-slot l sv′ sd′ r lv ld small q s w = record {
-    asks = m .asks;
-    bn = omega arith;
-    apart = apart-past small (here .1 .1 .1 .1);
-    row = w;
-    row-ends = writing-more (m .row-ends) r in-ends (ap (ends k) s ∙ ends-next k l (left live moments fs es vs ts ds (b + 1)) q);
-  }
-
-  pub show-live : (sv′ : List ℕ) (sd′ : List ℤ) (r : ℕ) → length sv′ ≡ length sv → length sd′ ≡ length sd → getD live b 0 ≡ 1
-      → Appended sv sd k (seen t (edits (part f e vs) (part f e ts) (part f e ds))) sv′ sd′ r → Showing live moments fs es vs ts ds se₀ sv₀ sd₀ (set se b r) sv′ sd′ (b + 1) r
-  show-live sv′ sd′ r lv ld q a₀ =
-      let l : Sums = seen t (part f e (edits vs ts ds)) in
-      let a : Appended sv sd k l sv′ sd′ r = subst (λ (x : List Edit). Appended sv sd k (seen t x) sv′ sd′ r) (part-edits f e vs ts ds) a₀ in
-      let s : left live moments fs es vs ts ds b ≡ l ∷ left live moments fs es vs ts ds (b + 1) = split ∙ rw (eq-eqb (getD live b 0) 1 q) in
-      next-slot l sv′ sd′ r lv ld (within a₀) (a .values .end ∙ simp length-map) s (filling-append (m .row) a lv ld (ap whole s))
-    where
-      within : Appended sv sd k (seen t (edits (part f e vs) (part f e ts) (part f e ds))) sv′ sd′ r → r ≤ e
-      within a =
-          let c : r ≡ k + length (seen t (edits (part f e vs) (part f e ts) (part f e ds))) = a .values .end ∙ simp length-map in
-          let x : length (seen t (edits (part f e vs) (part f e ts) (part f e ds))) ≤ length (edits (part f e vs) (part f e ts) (part f e ds)) = seen-length t (edits (part f e vs) (part f e ts) (part f e ds)) in
-          let y : length (edits (part f e vs) (part f e ts) (part f e ds)) ≤ length (part f e vs) = edits-length (part f e vs) (part f e ts) (part f e ds) in
-          let a1 : f ≤ e = bounds .0 in
-          let p : length (part f e vs) ≡ e - f = part-length f e vs a1 (bounds .1 .0) in
-          let z : k ≤ f = here .0 in
-          omega arith
-
-  pub show-none : (getD live b 0 ≡ 1 → ⊥) → Showing live moments fs es vs ts ds se₀ sv₀ sd₀ (set se b k) sv sd (b + 1) k
-  show-none q =
-      let s : left live moments fs es vs ts ds b ≡ [] ∷ left live moments fs es vs ts ds (b + 1) = split ∙ rw (ne-eqb (getD live b 0) 1 q) in
-      let a1 : f ≤ e = bounds .0 in
-      let z : k ≤ f = here .0 in
-      next-slot [] sv sd k refl refl (omega arith) (omega arith) s (filling-is (m .row) (ap whole s))
-
-pub showing-end : {live moments fs es vs ts : List ℕ} {ds : List ℤ} {se₀ sv₀ : List ℕ} {sd₀ : List ℤ} {se sv : List ℕ} {sd : List ℤ} {b k : ℕ}
-    → Showing live moments fs es vs ts ds se₀ sv₀ sd₀ se sv sd b k → length fs ≤ b → LaidInRow (seenAt live moments (partsOf fs es (edits vs ts ds))) se₀ sv₀ sd₀ se sv sd k
-unfolding seenAt ends
-showing-end {live} {moments} {fs} {es} {vs} {ts} {ds} {se₀} {se = se} {b = b} {k} m h =
-    let q : length live ≡ length fs = m .asks .same-l in
-    let n : left live moments fs es vs ts ds b ≡ [] = ap (λ l. seenAt l (drop b moments) (partsOf (drop b fs) (drop b es) (edits vs ts ds))) (drop-of-length-le live {i = b} (omega arith)) in
-    let c : Column se₀ 0 (ends 0 (left live moments fs es vs ts ds 0)) se b = writing-end (m .row-ends) (ap (ends k) n) in
-    let p : b ≡ length (ends 0 (left live moments fs es vs ts ds 0)) = (let z : b ≡ 0 + length (ends 0 (left live moments fs es vs ts ds 0)) = c .end in omega arith) in
-    record {
-      row = filling-end (m .row) (ap whole n);
-      row-ends = subst (λ (z : ℕ). Column se₀ 0 (ends 0 (left live moments fs es vs ts ds 0)) se z) (p ∙ length-ends 0 (left live moments fs es vs ts ds 0)) c;
     }

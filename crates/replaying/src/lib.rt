@@ -1,4 +1,5 @@
-// "Retire": the rounds of one window by a collapsed replay: its slots' parts of the runs are loaded, and then all is ahead of them.
-mod start;
+// "Retire": the rounds of a window's keys by a collapsed replay, key by key: each is loaded, and then all is ahead.
+mod key;
+mod window;
 
-pub use start::settle_replayed;
+pub use window::settle_replayed;

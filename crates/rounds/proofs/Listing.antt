@@ -1,13 +1,13 @@
 -- Edits that are appended to three columns.
 --
--- Listing: of the edits of `goal`, `rest` are still to be written. listing-start, listing-more, listing-append, listing-end: one edit written, many, all
+-- Listing: of the edits of `goal`, `rest` are still to be written. listing-start, listing-more, listing-end: one edit written, all
 use Prim.Native.Nat.{ℕ, _+_, _<_}
-use mathlib.Core.Path.{_≡_, _∙_, ap}
-use mathlib.Core.List.{List, [], _∷_, _++_, map, map-append}
+use mathlib.Core.Path.{_≡_, ap}
+use mathlib.Core.List.{List, [], _∷_, map}
 use lib.IntN.{ℤ}
 use lib.ListN.{length, set}
 use Rattle.rules.specs.Histories.{Edit, timeOf, valueOf}
-use Rattle.backends.proofs.Columns.{Writing, writing-start, writing-more, writing-append, writing-end}
+use Rattle.backends.proofs.Columns.{Writing, writing-start, writing-more, writing-end}
 use Rattle.rounds.specs.Merges.{Rows}
 
 pub record Listing (yv₀ yt₀ : List ℕ) (yd₀ : List ℤ) (at : ℕ) (goal : List Edit) (yv yt : List ℕ) (yd : List ℤ) (k : ℕ) (rest : List Edit) : Type 0 where
@@ -29,15 +29,6 @@ module _ {yv₀ yt₀ : List ℕ} {yd₀ : List ℤ} {at : ℕ} {goal : List Edi
     values = writing-more (w .values) (valueOf x) h (ap (map valueOf) e);
     times = writing-more (w .times) (timeOf x) g (ap (map timeOf) e);
     diffs = writing-more (w .diffs) (x .1) f (ap (map (λ (e : Edit). e .1)) e);
-  }
-
-  pub listing-append : {new rest′ : List Edit} {yv′ yt′ : List ℕ} {yd′ : List ℤ} {r : ℕ} → Rows yv yt yd k new yv′ yt′ yd′ r
-      → length yv′ ≡ length yv → length yt′ ≡ length yt → length yd′ ≡ length yd → rest ≡ new ++ rest′
-      → Listing yv₀ yt₀ yd₀ at goal yv′ yt′ yd′ r rest′
-  listing-append {new} {rest′} a l m n e = record {
-    values = writing-append (w .values) (a .values) l (ap (map valueOf) e ∙ map-append valueOf new rest′);
-    times = writing-append (w .times) (a .times) m (ap (map timeOf) e ∙ map-append timeOf new rest′);
-    diffs = writing-append (w .diffs) (a .diffs) n (ap (map (λ (e : Edit). e .1)) e ∙ map-append (λ (e : Edit). e .1) new rest′);
   }
 
   pub listing-end : rest ≡ [] → Rows yv₀ yt₀ yd₀ at goal yv yt yd k

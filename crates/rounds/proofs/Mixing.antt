@@ -1,35 +1,30 @@
--- The merge of a slot's corrections into its output, and what it keeps.
+-- The merge of a key's correction into its output, and what it keeps.
 --
 -- Mixing: the edits before i of the segment and before j of the corrections are merged, and stand before k
 -- mixing-start, mix-left, mix-right, mixing-end: the merge keeps that. here-*, in-*: the places that a turn reads and writes
--- merged-sorted: what is merged ascends by value. merged-mass: its diffs are together as large as those of the segment and of the corrections.
--- merged-seen: at each time, what is seen of it is what is seen of the segment and the corrections
+-- merged-sorted: what is merged ascends by value. merged-mass: its diffs are together as large as those of the segment and of the corrections
 use Prim.Native.Nat.{ℕ, zero, suc, _+_, _-_, _<_, _≤_}
 use native.Mathlib.Omega.{arith}
-use mathlib.Core.Bool.{Bool, true, false, cond}
+use mathlib.Core.Bool.{Bool, true, false}
 use mathlib.Core.Path.{_≡_, refl, sym, _∙_, ap, subst}
 use mathlib.Core.List.{List, [], _∷_, _++_, map}
 use lib.Dec.{ltb, leb}
 use lib.IntN.{ℤ, pos, natAbs}
 use lib.ListN.{length, drop, getD, set, length-map}
 use borrow.Author.Tests.{ltb-true, ltb-false}
-use Rattle.grid.specs.Lists.{keep, insert, sort}
-use Rattle.grid.specs.Times.{below}
+use Rattle.grid.specs.Lists.{insert, sort}
 use Rattle.grid.proofs.Tests.{by-test, clash}
 use Rattle.grid.proofs.Lists.{all-map, map-all}
 use Rattle.grid.proofs.Sort.{Ranking, ranking-leb, Sorted, none, more, sorted-sort, merge, merge-sorted, leftFirst, merge-left, merge-right, merge-none, first-left, first-none}
-use Rattle.grid.proofs.Sums.{sum, sum-sort, sum-map, sum-keep}
 use Rattle.grid.proofs.Sizes.{mass, mass-append, mass-map}
-use Rattle.grid.proofs.Consolidate.{strict-ltb, share, consolidate-ext}
 use Rattle.grid.proofs.Operations.{no-length, map-drop}
 use Rattle.rules.specs.Histories.{Edit, timeOf, valueOf}
 use Rattle.rules.specs.Backends.{Sums}
-use Rattle.rules.specs.Retire.{seen, dated}
+use Rattle.rules.specs.Retire.{dated}
 use Rattle.backends.specs.Columns.{entries}
 use Rattle.backends.proofs.Columns.{less, Writing, writing-start, writing-more, writing-end}
 use Rattle.moments.specs.Present.{edits}
 use Rattle.rounds.specs.Merges.{byValue, merged, Merges, Rows}
-use Rattle.moments.proofs.Shown.{shown}
 use Rattle.moments.proofs.Showing.{e₀, edits-at, edits-values}
 
 -- ---- the columns of edits
@@ -229,18 +224,6 @@ module _ {uv ut : List ℕ} {ud : List ℤ} {cv : List ℕ} {cd : List ℤ} {t a
 pub merged-sorted : (es : List Edit) (t : ℕ) (c : Sums) → Sorted leb (map valueOf (merged es t c))
 unfolding merged
 merged-sorted es t c = sorted-values (sorted-sort ranking-value (es ++ dated t c))
-
-pub merged-seen : (q : ℕ) (es : List Edit) (t : ℕ) (c : Sums) → seen q (merged es t c) ≡ seen q (es ++ dated t c)
-unfolding merged seen shown
-merged-seen q es t c =
-    consolidate-ext strict-ltb (shown q (sort byValue (es ++ dated t c))) (shown q (es ++ dated t c))
-    (λ p. shares p (sort byValue (es ++ dated t c)) ∙ sum-sort (one p) byValue (es ++ dated t c) ∙ sym (shares p (es ++ dated t c)))
-  where
-    one : (ℕ → Bool) → Edit → ℤ
-    one p e = cond (below (timeOf e) q) (share p (valueOf e, e .1)) (pos 0)
-
-    shares : (p : ℕ → Bool) (fs : List Edit) → sum (share p) (shown q fs) ≡ sum (one p) fs
-    shares p fs = sum-map (share p) (λ (e : Edit). (valueOf e, e .1)) (keep (λ e. below (timeOf e) q) fs) ∙ sum-keep (λ (e : Edit). share p (valueOf e, e .1)) (λ e. below (timeOf e) q) fs
 
 -- ---- mass
 module _ (le : Edit → Edit → Bool) where

@@ -1,7 +1,6 @@
-// Slots' parts of a run, laid in a row.
+// Edits appended to columns.
 ghost use Rattle.moments.specs.Present.{edits};
-ghost use Rattle.moments.specs.Window.{partsOf};
-ghost use Rattle.rounds.specs.Merges.{Rows, RowsInRow, Lays, LaysRow};
+ghost use Rattle.rounds.specs.Merges.{Rows, Lays};
 
 // Appends at `at` the edits of three columns.
 pub fn append_edits(
@@ -25,33 +24,6 @@ pub fn append_edits(
         yd[k] = d;
         i += 1;
         k += 1;
-    }
-    k
-}
-
-// Slot b's part is from from[b] to to[b]. It is laid in a row, and ends at ye[b].
-pub fn lay_row(
-    from: &[usize],
-    to: &[usize],
-    values: &[u64],
-    times: &[u64],
-    diffs: &[i64],
-    ye: &mut [usize],
-    yv: &mut [u64],
-    yt: &mut [u64],
-    yd: &mut [i64],
-) -> usize
-    requires { ⌜ LaysRow (now from) (now to) (now values) (now times) (now diffs) (now ye) (now yv) (now yt) (now yd) ⌝ }
-    ensures { λ r. ⌜ RowsInRow (partsOf (now (from .entry)) (now (to .entry)) (edits (now (values .entry)) (now (times .entry)) (now (diffs .entry)))) (now (ye .entry)) (now (yv .entry)) (now (yt .entry)) (now (yd .entry)) (now (ye .exit)) (now (yv .exit)) (now (yt .exit)) (now (yd .exit)) r ⌝ }
-{
-    let mut b = 0;
-    let mut k = 0;
-    while b < from.len() {
-        let f = from[b];
-        let e = to[b];
-        k = append_edits(&values[f..e], &times[f..e], &diffs[f..e], yv, yt, yd, k);
-        ye[b] = k;
-        b += 1;
     }
     k
 }

@@ -2,9 +2,8 @@
 use sorting::left_first;
 use times::PackedTime;
 ghost use Rattle.backends.specs.Columns.{entries};
-ghost use Rattle.backends.specs.Crossing.{segments};
 ghost use Rattle.moments.specs.Present.{edits};
-ghost use Rattle.rounds.specs.Merges.{merged, Merges, Rows, mergedAt, MergesRow, RowsInRow};
+ghost use Rattle.rounds.specs.Merges.{merged, Merges, Rows};
 
 // Appends at `at` the segment (uv, ut, ud) with the corrections (cv, cd) at time t.
 pub fn merge_corrections(
@@ -43,52 +42,6 @@ pub fn merge_corrections(
             j += 1;
             k += 1;
         }
-    }
-    k
-}
-
-// Slot b's segment ends at ue[b], and its corrections, at ts[b], end at ce[b]. Each is merged, laid in a row, and ends at ye[b].
-pub fn merge_row(
-    ts: &[u64],
-    ue: &[usize],
-    uv: &[u64],
-    ut: &[u64],
-    ud: &[i64],
-    ce: &[usize],
-    cv: &[u64],
-    cd: &[i64],
-    ye: &mut [usize],
-    yv: &mut [u64],
-    yt: &mut [u64],
-    yd: &mut [i64],
-) -> usize
-    requires { ⌜ MergesRow (now ts) (now ue) (now uv) (now ut) (now ud) (now ce) (now cv) (now cd) (now ye) (now yv) (now yt) (now yd) ⌝ }
-    ensures { λ r. ⌜ RowsInRow (mergedAt (now (ts .entry)) (segments 0 (now (ue .entry)) (edits (now (uv .entry)) (now (ut .entry)) (now (ud .entry)))) (segments 0 (now (ce .entry)) (entries (now (cv .entry)) (now (cd .entry))))) (now (ye .entry)) (now (yv .entry)) (now (yt .entry)) (now (yd .entry)) (now (ye .exit)) (now (yv .exit)) (now (yt .exit)) (now (yd .exit)) r ⌝ }
-{
-    let mut b = 0;
-    let mut f = 0;
-    let mut g = 0;
-    let mut k = 0;
-    while b < ue.len() {
-        let e = ue[b];
-        let h = ce[b];
-        let t = PackedTime(ts[b]);
-        k = merge_corrections(
-            &uv[f..e],
-            &ut[f..e],
-            &ud[f..e],
-            &cv[g..h],
-            &cd[g..h],
-            t,
-            yv,
-            yt,
-            yd,
-            k,
-        );
-        ye[b] = k;
-        f = e;
-        g = h;
-        b += 1;
     }
     k
 }

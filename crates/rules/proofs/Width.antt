@@ -2,7 +2,7 @@
 --
 -- atWidth w q: the request q with the width w. Agree: two answers are equal but for the crossings
 -- width-agrees: requests that differ in nothing but a width of 1 to 64 have such answers
--- windows-whole, windows-size: the windows are the whole list, in parts of at most the width
+-- windows-whole: the windows are the whole list
 -- longest, rounds-longest: a window has as many rounds as its longest list has entries. window-bound: and at most as many crossings
 -- sumOf, crossings-bound: crossings are at most the sum of these over the windows
 -- settle-length, work-rounds: a key has a round for each moment
@@ -87,11 +87,6 @@ module _ {A : Type 0} (width : ℕ) where
   windows-whole h (suc n) [] k = refl
   windows-whole h (suc n) (x ∷ xs) k =
       ap (λ r. take width (x ∷ xs) ++ r) (windows-whole h n (drop width (x ∷ xs)) (rw (length-drop width (x ∷ xs)) (omega arith))) ∙ take-append-drop width (x ∷ xs)
-
-  pub windows-size : (n : ℕ) (xs : List A) → All (λ w. length w ≤ width) (windows n width xs)
-  windows-size zero xs = nil
-  windows-size (suc n) [] = nil
-  windows-size (suc n) (x ∷ xs) = cons {x = take width (x ∷ xs)} (omega (arith, length-take width (x ∷ xs))) (windows-size n (drop width (x ∷ xs)))
 
 -- ---- crossings
 -- the length of the longest list

@@ -4,32 +4,32 @@
 -- from-reaches, to-reaches: the columns are as long as the window. parts-lent, found-lent: what their fronts tell is the same when they are lent
 -- own-room, in-room, out-room: the columns have room for the window's keys. window-lent, runs-lent: what the discovery asks of its memory, and of the runs
 -- found-few: what is found of a key without a limit passed has few moments. each-few: so it is for all keys of a window
--- window-cut: so the moments of each key are a segment within the limit
+-- cut-ends: lists laid in a row are segments, by their ends. window-cut: so the moments of each key are a segment within the limit
 -- window-parted: the searches tell parts of the runs. sought: what search and discovery leave
 use Prim.Native.Nat.{ℕ, suc, _+_, _-_, _≤_}
 use native.Mathlib.Nat.{sub-zero}
 use native.Mathlib.Omega.{arith}
 use mathlib.Core.Bool.{Bool, false}
-use mathlib.Core.List.{List, _++_, map, map-map}
+use mathlib.Core.List.{List, [], _∷_, _++_, map, map-map, append-assoc}
 use mathlib.Core.Path.{_≡_, refl, sym, _∙_, ap, subst}
 use lib.IntN.{ℤ}
-use lib.ListN.{length, take, drop, length-take, take-append-drop}
+use lib.ListN.{length, take, drop, length-append, length-drop, length-take, take-append-drop}
+use lib.Seq.{drop-drop, take-append-seam, drop-append-seam}
 use Rattle.grid.specs.Lists.{any}
 use Rattle.grid.specs.Records.{Row}
 use Rattle.grid.proofs.Tests.{or-false-l, or-false-r}
-use Rattle.grid.proofs.Lists.{All, all-imp, all-map, map-all, none-all}
+use Rattle.grid.proofs.Lists.{All, head, tail, all-imp, all-map, map-all, none-all}
 use Rattle.grid.proofs.Slices.{laid-front}
 use Rattle.rules.specs.Discover.{mostMoments, State, start, discover}
 use Rattle.rules.specs.Call.{editsOf, pendingOf}
 use Rattle.rules.proofs.Order.{run-keeps}
 use Rattle.rules.proofs.Fuel.{Bounded, step-bounded, start-bounded}
-use Rattle.backends.specs.Crossing.{Cut}
-use Rattle.correcting.proofs.InRow.{cut-ends}
+use Rattle.backends.specs.Crossing.{part, ends, whole, Cut, done, next}
 use Rattle.keys.specs.declared.Span.{Span}
-use Rattle.finding.specs.Searched.{SearchRoom, Searched}
+use Rattle.searches.specs.Searched.{SearchRoom, Searched}
 use Rattle.finding.specs.Windowed.{stateAt, LentRuns, LentWindow, Parted, spansIn, fourfold, momentsOf, windowOver, FindsWindow}
 use Rattle.finding.specs.Keyed.{foundAt}
-use Rattle.finding.specs.declared.Tally.{Tally}
+use Rattle.tallies.specs.declared.Tally.{Tally}
 use Rattle.finding.proofs.Keyed.{searched-spans, searched-parted, window-found, window-moments}
 use Rattle.seeking.specs.Sought.{foundIn, Seeks, Reached, LentSeek, Sought}
 use Rattle.progress.specs.declared.Progress.{Progress}
@@ -85,7 +85,7 @@ runs-lent s =
     }
 
 -- ---- the limit of moments
-found-few : (upper : List ℕ) (new pending : List (ℕ × ℕ)) (input : List Row) (out : List (ℕ × ℕ)) (k : ℕ) → foundAt upper new pending input out k .over ≡ false → length (foundAt upper new pending input out k .moments) ≤ mostMoments
+pub found-few : (upper : List ℕ) (new pending : List (ℕ × ℕ)) (input : List Row) (out : List (ℕ × ℕ)) (k : ℕ) → foundAt upper new pending input out k .over ≡ false → length (foundAt upper new pending input out k .moments) ≤ mostMoments
 unfolding foundAt discover
 found-few upper new pending input out k =
     run-keeps (Bounded upper) upper (λ s n e h. step-bounded upper n s h)
@@ -94,12 +94,30 @@ found-few upper new pending input out k =
     (start-bounded upper (pendingOf k new) (pendingOf k pending) (editsOf k input) (pendingOf k out))
     .few
 
-each-few : (found : ℕ → State) → ((k : ℕ) → found k .over ≡ false → length (found k .moments) ≤ mostMoments) → (over : Bool) (n : ℕ) (keys : List ℕ) → windowOver over n (map found keys) ≡ false
+pub each-few : (found : ℕ → State) → ((k : ℕ) → found k .over ≡ false → length (found k .moments) ≤ mostMoments) → (over : Bool) (n : ℕ) (keys : List ℕ) → windowOver over n (map found keys) ≡ false
     → All (λ m. length m ≤ mostMoments) (momentsOf (map found keys))
 unfolding windowOver
 each-few found few over n keys e =
     let none : any (λ (D : State). D .over) (map found keys) ≡ false = or-false-l (any (λ (D : State). D .over) (map found keys)) _ (or-false-r over _ e) in
     all-map (λ (D : State). D .moments) (all-map found (all-imp few (map-all found keys (none-all (λ (D : State). D .over) (map found keys) none))))
+
+module _ {A : Type 0} where
+  first-part : (k : ℕ) (s l rest : List A) → drop k l ≡ s ++ rest → part k (k + length s) l ≡ s
+  first-part k s l rest e =
+      let n : k + length s - k ≡ length s = omega arith in
+      ap (λ m. take m (drop k l)) n ∙ ap (take (length s)) e ∙ take-append-seam s rest
+
+  next-drop : (k : ℕ) (s l rest : List A) → drop k l ≡ s ++ rest → drop (k + length s) l ≡ rest
+  next-drop k s l rest e = sym (drop-drop (length s) k l) ∙ ap (drop (length s)) e ∙ drop-append-seam s rest
+
+  cut-ends : {P : List A → Type 0} (k : ℕ) (ss : List (List A)) (l rest : List A) → All P ss → k ≤ length l → drop k l ≡ whole ss ++ rest → Cut P l k (ends k ss)
+  unfolding ends
+  cut-ends k [] l rest a h e = done
+  cut-ends {P} k (s ∷ ss) l rest a h e =
+      let q : drop k l ≡ s ++ (whole ss ++ rest) = e ∙ append-assoc s (whole ss) rest in
+      let n : length l - k ≡ length s + length (whole ss ++ rest) = sym (length-drop k l) ∙ ap length q ∙ length-append s (whole ss ++ rest) in
+      let m : k + length s ≤ length l = omega arith in
+      next {f = k} {e = k + length s} (omega arith) m (subst P (sym (first-part k s l (whole ss ++ rest) q)) (head a)) (cut-ends (k + length s) ss l rest (tail a) m (next-drop k s l (whole ss ++ rest) q))
 
 window-cut : {keys : List ℕ} {Ds : List State} {p : Tally} {mends nextkeys nexttimes moments′ mends′ nextkeys′ nexttimes′ : List ℕ} {r : Tally} → FindsWindow keys Ds p mends nextkeys nexttimes moments′ mends′ nextkeys′ nexttimes′ r
     → length keys ≤ length mends → r .over ≡ false → All (λ m. length m ≤ mostMoments) (momentsOf Ds) → Cut (λ m. length m ≤ mostMoments) moments′ 0 (take (length keys) mends′)

@@ -20,9 +20,9 @@ use Rattle.consolidation.specs.Entries.{mass, mostMass}
 use Rattle.backends.specs.Columns.{Column}
 use Rattle.backends.specs.Crossing.{segments, Cut}
 use Rattle.keys.specs.Spans.{Reaches, Level}
-use Rattle.finding.specs.Appends.{NextRoom}
-use Rattle.finding.specs.Tallies.{mostInput, mostWindow}
-use Rattle.finding.specs.Searched.{spansFrom, endFrom}
+use Rattle.tallies.specs.Appends.{NextRoom}
+use Rattle.tallies.specs.Tallied.{mostInput, mostWindow}
+use Rattle.searches.specs.Searched.{spansFrom, endFrom}
 use Rattle.finding.specs.Windowed.{spansIn, pendedRow, firstsOf, secondsOf, windowOver}
 use Rattle.finding.specs.Keyed.{foundAt}
 use Rattle.progress.specs.declared.Progress.{Progress}

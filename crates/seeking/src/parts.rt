@@ -1,6 +1,6 @@
 // A window's discovery, from the columns that the searches wrote.
-use finding::Tally;
 use finding::find_window;
+use tallies::Tally;
 ghost use lib.ListN.{length, take};
 ghost use Rattle.finding.specs.Tallies.{Scratch};
 ghost use Rattle.finding.specs.Windowed.{LentRuns, LentWindow, Parted, spansIn, stateAt, fourfold, FindsWindow};

@@ -1,9 +1,9 @@
 // A window's search and discovery.
 use crate::parts::find_parts;
-use finding::Places;
-use finding::Tally;
-use finding::search_window;
 use progress::Progress;
+use searches::Places;
+use searches::search_window;
+use tallies::Tally;
 ghost use Rattle.finding.specs.Tallies.{Scratch};
 ghost use Rattle.seeking.specs.Sought.{foundIn, Seeks, Reached, LentSeek, Sought};
 

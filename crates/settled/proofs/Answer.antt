@@ -14,7 +14,7 @@ use Rattle.grid.specs.Records.{Row}
 use Rattle.rules.specs.Tiles.{tiles}
 use Rattle.rules.specs.Call.{Request, fixBefore, changed, workAll, pendedAll, tooMany, refused, call}
 use Rattle.rules.proofs.Statuses.{Works, call-limits, call-worked, call-refused}
-use Rattle.rounds.specs.Slots.{rowsTooLarge}
+use Rattle.slots.specs.Slots.{rowsTooLarge}
 use Rattle.settled.specs.Call.{windowsOf, rowsOf, asFix}
 use Rattle.settled.proofs.Call.{Rules, call-settled}
 use Rattle.settled.proofs.Through.{Through, through-rows, through-count}
@@ -28,7 +28,7 @@ module _ {q : Request} (W : Works q) where
   module _ (few : tooMany (workAll q) ≡ false) where
     pub answer-large : rowsTooLarge 0 (rowsOf q (windowsOf q (changed q))) ≡ true → call q ≡ refused 19
     answer-large l =
-        let e : call q .status ≡ 19 = call-limits q .row-19 .1 (W, few, sym (call-settled q (W .accepted) few .large-is) ∙ l) in
+        let e : call q .status ≡ 19 = call-limits q .row-19 .1 (W, few, sym (call-settled q (W .accepted) .large-is) ∙ l) in
         call-refused q (omega arith) ∙ ap refused e
 
     pub answer-worked : {p : ℕ} {rows : List Row} {count : ℕ} → Through q p rows count → length (changed q) ≤ p → call q ≡ record {
@@ -40,7 +40,7 @@ module _ {q : Request} (W : Works q) where
       frontier = minimal (map (λ p. p .1) (pendedAll (workAll q)));
     }
     answer-worked {p} {rows} {count} t z =
-        let R : Rules q rows count = rw (through-rows t z, through-count t z) (call-settled q (W .accepted) few) in
+        let R : Rules q rows count = rw (through-rows t z, through-count t z) (call-settled q (W .accepted)) in
         let e : call q .status ≡ 0 = call-limits q .row-0 .1 (W, few, sym (R .large-is) ∙ t .rows-fit) in
         let A = call-worked q e in
         λ i. record {

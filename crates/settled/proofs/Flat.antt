@@ -1,30 +1,20 @@
 -- Lists one after the other, and tests of lists in a row.
 --
--- flat-map, flat-flat, map-flat, flat-none, flat-all, length-flat: of `flat`, under the operations on lists
--- any-map: some element passes, of what a function makes of the elements
--- sumOf-all: functions that agree on each element have one sum
-use Prim.Native.Nat.{ℕ, _+_}
-use mathlib.Core.Bool.{Bool, _||_}
+-- flat-map, flat-flat, map-flat, length-flat: of `flat`, under the operations on lists
+-- any-map, any-sort: some element passes, of what a function makes of the elements, and of a sorted list
+use Prim.Native.Nat.{_+_}
+use mathlib.Core.Bool.{Bool, true, false, _||_}
 use mathlib.Core.List.{List, [], _∷_, _++_, map, map-append}
-use mathlib.Core.Path.{_≡_, refl, sym, _∙_, ap, ap₂}
+use mathlib.Core.Path.{_≡_, refl, sym, _∙_, ap}
 use lib.ListN.{length, length-append}
-use Rattle.grid.specs.Lists.{any, flat}
-use Rattle.grid.proofs.Lists.{All, nil, cons}
+use Rattle.grid.specs.Lists.{any, insert, sort, flat}
+use Rattle.grid.proofs.Tests.{by-test}
 use Rattle.grid.proofs.Operations.{flat-append}
 use Rattle.rules.proofs.Width.{sumOf}
 
-module _ {A B : Type 0} where
-  pub flat-none : (xs : List A) → flat {B = B} (λ x. []) xs ≡ []
-  flat-none [] = refl
-  flat-none (x ∷ xs) = flat-none xs
-
-  pub flat-all : {f g : A → List B} {xs : List A} → All (λ x. f x ≡ g x) xs → flat f xs ≡ flat g xs
-  flat-all nil = refl
-  flat-all (cons e h) = ap₂ _++_ e (flat-all h)
-
-  pub length-flat : (f : A → List B) (xs : List A) → length (flat f xs) ≡ sumOf (λ x. length (f x)) xs
-  length-flat f [] = refl
-  length-flat f (x ∷ xs) = length-append (f x) (flat f xs) ∙ ap (λ n. length (f x) + n) (length-flat f xs)
+pub length-flat : {A B : Type 0} (f : A → List B) (xs : List A) → length (flat f xs) ≡ sumOf (λ x. length (f x)) xs
+length-flat f [] = refl
+length-flat f (x ∷ xs) = length-append (f x) (flat f xs) ∙ ap (λ n. length (f x) + n) (length-flat f xs)
 
 module _ {A B C : Type 0} where
   pub flat-map : (f : B → List C) (g : A → B) (xs : List A) → flat f (map g xs) ≡ flat (λ x. f (g x)) xs
@@ -43,6 +33,16 @@ pub any-map : {A B : Type 0} (p : B → Bool) (f : A → B) (xs : List A) → an
 any-map p f [] = refl
 any-map p f (x ∷ xs) = ap (λ b. p (f x) || b) (any-map p f xs)
 
-pub sumOf-all : {A : Type 0} {f g : A → ℕ} {xs : List A} → All (λ x. f x ≡ g x) xs → sumOf f xs ≡ sumOf g xs
-sumOf-all nil = refl
-sumOf-all (cons e h) = ap₂ _+_ e (sumOf-all h)
+or-swap : (a b c : Bool) → (a || (b || c)) ≡ (b || (a || c))
+or-swap true true c = refl
+or-swap true false c = refl
+or-swap false b c = refl
+
+module _ {A : Type 0} (p : A → Bool) (le : A → A → Bool) where
+  any-insert : (x : A) (ys : List A) → any p (insert le x ys) ≡ (p x || any p ys)
+  any-insert x [] = refl
+  any-insert x (y ∷ ys) = by-test (le x y) (λ e. rw e) (λ e. rw (e, any-insert x ys) (or-swap (p y) (p x) (any p ys)))
+
+  pub any-sort : (xs : List A) → any p (sort le xs) ≡ any p xs
+  any-sort [] = refl
+  any-sort (x ∷ xs) = any-insert x (sort le xs) ∙ ap (λ b. p x || b) (any-sort xs)

@@ -1,9 +1,4 @@
-pub mod Permuted
-pub mod Arranged
 pub mod Flat
-pub mod Slots
-pub mod Windows
-pub mod Distinct
 pub mod Fixes
 pub mod Call
 pub mod Through

@@ -15,11 +15,10 @@ use lib.Seq.{take-all, drop-drop}
 use borrow.Author.Tests.{leb-true, leb-false}
 use Rattle.grid.specs.Records.{Row}
 use Rattle.grid.proofs.Tests.{by-test, or-l, or-r}
-use Rattle.rules.specs.Discover.{mostMoments}
 use Rattle.rules.specs.Retire.{windows}
 use Rattle.rules.specs.Call.{Request, changed}
 use Rattle.backends.specs.Crossing.{part}
-use Rattle.rounds.specs.Slots.{Slot, rowsTooLarge, windowRows, windowCrossings}
+use Rattle.slots.specs.Slots.{Slot, rowsTooLarge, windowRows, windowCrossings}
 use Rattle.settled.specs.Call.{slotOf, windowsOf, rowsOf, crossingsOf}
 use Rattle.settled.proofs.Fixes.{large-append}
 
@@ -86,7 +85,7 @@ module _ {q : Request} {p : ℕ} {rows : List Row} {count : ℕ} (t : Through q 
     slots = map (slotOf q) (part p e (changed q))
 
     abbrev itsRows : List Row
-    itsRows = windowRows (q .mode) mostMoments slots
+    itsRows = windowRows (q .mode) slots
 
     abbrev later : List Row
     later = rowsOf q (windowsOf q (drop e (changed q)))
@@ -95,14 +94,14 @@ module _ {q : Request} {p : ℕ} {rows : List Row} {count : ℕ} (t : Through q 
     unfolding rowsOf
     rows-next = ap (λ ws. rows ++ rowsOf q ws) (sym (windows-next q wide p e (changed q) h k)) ∙ t .rows-are
 
-    count-next : count + (windowCrossings (q .mode) mostMoments slots + crossingsOf q (windowsOf q (drop e (changed q)))) ≡ crossingsOf q (windowsOf q (changed q))
+    count-next : count + (windowCrossings (q .mode) slots + crossingsOf q (windowsOf q (drop e (changed q)))) ≡ crossingsOf q (windowsOf q (changed q))
     unfolding crossingsOf
     count-next = ap (λ ws. count + crossingsOf q ws) (sym (windows-next q wide p e (changed q) h k)) ∙ t .count-is
 
     large-next : (rs : List Row) → rowsTooLarge 0 (rows ++ rs) ≡ (rowsTooLarge 0 rows || rowsTooLarge (length rows) rs)
     large-next rs = large-append 0 rows rs ∙ ap (λ n. rowsTooLarge 0 rows || rowsTooLarge n rs) (let z : 0 + length rows ≡ length rows = omega arith in z)
 
-    pub through-more : rowsTooLarge (length rows) itsRows ≡ false → Through q e (rows ++ itsRows) (count + windowCrossings (q .mode) mostMoments slots)
+    pub through-more : rowsTooLarge (length rows) itsRows ≡ false → Through q e (rows ++ itsRows) (count + windowCrossings (q .mode) slots)
     through-more f = record {
       within = omega arith;
       rows-are = append-assoc rows itsRows later ∙ rows-next;

@@ -13,12 +13,11 @@ use lib.ListN.{length}
 use Rattle.grid.specs.Lists.{flat}
 use Rattle.grid.specs.Records.{Row}
 use Rattle.rules.specs.Tiles.{tiles, tileOf}
-use Rattle.rules.specs.Discover.{mostMoments}
 use Rattle.rules.specs.Retire.{windows}
 use Rattle.rules.specs.Call.{Request, Fix, together, editsOf}
 use Rattle.rules.specs.Runs.{workOf}
 use Rattle.rules.proofs.Width.{sumOf}
-use Rattle.rounds.specs.Slots.{Slot, windowRows, windowCrossings}
+use Rattle.slots.specs.Slots.{Slot, windowRows, windowCrossings}
 
 unfoldable pub slotOf : Request → ℕ → Slot
 slotOf q k = record { key = k; input = editsOf k (together (q .old) (q .new)); output = editsOf k (q .out); moments = workOf q k .found .moments }
@@ -27,10 +26,10 @@ unfoldable pub windowsOf : Request → List ℕ → List (List ℕ)
 windowsOf q ks = windows (length ks) (q .width) ks
 
 unfoldable pub rowsOf : Request → List (List ℕ) → List Row
-rowsOf q ws = flat (λ w. windowRows (q .mode) mostMoments (map (slotOf q) w)) ws
+rowsOf q ws = flat (λ w. windowRows (q .mode) (map (slotOf q) w)) ws
 
 unfoldable pub crossingsOf : Request → List (List ℕ) → ℕ
-crossingsOf q ws = sumOf (λ w. windowCrossings (q .mode) mostMoments (map (slotOf q) w)) ws
+crossingsOf q ws = sumOf (λ w. windowCrossings (q .mode) (map (slotOf q) w)) ws
 
 abbrev pub asFix : Request → Row → Fix
 asFix q r = record { tile = tileOf (q .held) (tiles (q .lower) (q .upper) (q .held)) (r .time); row = r }

@@ -2,7 +2,6 @@
 --
 -- parts-are: the part of each key holds its edits. parts-apart: the parts do not overlap, and each ascends by value, with diffs that are
 -- together no larger than those of the run's records
--- edits-light: the diffs of a run are together no larger than that
 use Prim.Native.Nat.{ℕ, _*_, _≤_, _^_}
 use native.Mathlib.Omega.{arith}
 use mathlib.Core.Bool.{true}
@@ -13,7 +12,7 @@ use lib.IntN.{ℤ, natAbs}
 use lib.ListN.{length, length-map}
 use Rattle.grid.specs.Lists.{keep, ascending}
 use Rattle.grid.specs.Records.{Row, rows}
-use Rattle.grid.proofs.Lists.{All, nil, cons, head, all-keep, all-map, map-all, keep-length}
+use Rattle.grid.proofs.Lists.{All, head, all-keep, all-map, map-all, keep-length}
 use Rattle.grid.proofs.Sizes.{mass, mass-most}
 use Rattle.grid.proofs.Ascending.{ascending-rest}
 use Rattle.rules.specs.Histories.{Edit, valueOf}
@@ -25,7 +24,7 @@ use Rattle.keys.specs.Spans.{Reaches, Spans, Level}
 use Rattle.keys.specs.declared.Span.{Span}
 use Rattle.keys.proofs.Spans.{keyOf, diffOf, rows-keys, rows-diffs, map-part, keep-part, spans-within}
 use Rattle.keys.proofs.Ranked.{Ranked, Modest, ranked-values}
-use Rattle.finding.specs.Searched.{fromAt, spanAt, spansFrom, endFrom}
+use Rattle.searches.specs.Searched.{fromAt, spanAt, spansFrom, endFrom}
 use Rattle.finding.specs.Windowed.{spansIn}
 use Rattle.finding.proofs.Keyed.{reaches-past}
 use Rattle.moments.specs.Present.{edits}
@@ -52,14 +51,6 @@ tos-in [] [] e = refl
 tos-in [] (t ∷ es) e = no-length (length es) (sym e)
 tos-in (f ∷ fs) [] e = no-length (length fs) e
 tos-in (f ∷ fs) (t ∷ es) e = ap (λ l. t ∷ l) (tos-in fs es (less e))
-
--- ---- all of a run
-pub edits-light : (vs ts : List ℕ) {ds : List ℤ} → All Modest ds → mass natAbs (edits vs ts ds) ≤ length ds * 2 ^ 31
-unfolding edits
-edits-light [] ts a = omega arith
-edits-light (v ∷ vs) [] a = omega arith
-edits-light (v ∷ vs) (t ∷ ts) nil = omega arith
-edits-light (v ∷ vs) (t ∷ ts) (cons {xs = ds} h a) = let k : mass natAbs (edits vs ts ds) ≤ length ds * 2 ^ 31 = edits-light vs ts a in omega arith
 
 -- ---- a key's part of a run
 spans-at : (run : List ℕ) (start k : ℕ) → Spans run start k (spanAt run start k)

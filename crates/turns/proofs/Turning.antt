@@ -2,10 +2,8 @@
 --
 -- in-sorted, out-sorted: the keys of the runs ascend
 -- turn-seeks, turn-lends: what its first half asks, turn-wide, turn-corrects: what its second half asks. turned: what it leaves
--- fronts-scratch, fronts-room: what the search and discovery ask. fronts-within, fronts-ask, fronts-give: what the rounds ask
--- of the fronts, and what they leave
-use Prim.Native.Nat.{ℕ, _-_, _≤_}
-use native.Mathlib.Nat.{sub-zero}
+-- fronts-scratch, fronts-room: what the search and discovery ask
+use Prim.Native.Nat.{ℕ, _+_, _≤_}
 use native.Mathlib.Omega.{arith}
 use mathlib.Core.Bool.{false}
 use mathlib.Core.List.{List, [], _∷_, map}
@@ -14,26 +12,28 @@ use lib.Dec.{leb}
 use lib.IntN.{ℤ}
 use lib.ListN.{length, take}
 use lib.Seq.{length-take-le}
+use Rattle.grid.specs.Records.{Row}
 use Rattle.grid.proofs.Tests.{or-false-l}
 use Rattle.grid.proofs.Sort.{Sorted}
 use Rattle.rules.specs.Histories.{Edit}
 use Rattle.rules.specs.Call.{editsOf}
-use Rattle.backends.specs.Crossing.{part, segments}
+use Rattle.backends.specs.Crossing.{segments}
 use Rattle.keys.proofs.Spans.{rows-keys}
 use Rattle.keys.proofs.Ranked.{ranked-keys, modest-light}
 use Rattle.finding.specs.Tallies.{Scratch}
 use Rattle.finding.specs.Windowed.{windowOver}
 use Rattle.moments.specs.Present.{edits}
 use Rattle.moments.specs.Window.{partsOf}
-use Rattle.rounds.specs.Slots.{slotsOf}
-use Rattle.correcting.specs.Settle.{LentFixes}
+use Rattle.slots.specs.Slots.{slotsOf}
+use Rattle.fixing.specs.Settle.{LentFixes}
 use Rattle.seeking.specs.Sought.{Seeks, LentSeek, Sought}
 use Rattle.progress.specs.declared.Progress.{Progress}
-use Rattle.turns.specs.declared.Fronts.{Fronts}
+use Rattle.fronts.specs.declared.Fronts.{Fronts}
+use Rattle.fronts.specs.Filled.{Full}
 use Rattle.turns.specs.Runs.{Runs, inRows, outRows, foundOf, slotAt, Good}
-use Rattle.mending.specs.Corrected.{Wide, Corrects, Corrected}
-use Rattle.turns.specs.Worked.{LentWork, LentFronts, Full, Takes, Turned}
-use Rattle.turns.proofs.Parts.{edits-light, parts-are, parts-apart}
+use Rattle.mending.specs.Corrected.{Mended, Wide, Corrects, Corrected}
+use Rattle.turns.specs.Worked.{LentWork, LentFronts, Takes, Turned}
+use Rattle.turns.proofs.Parts.{parts-are, parts-apart}
 
 module _ {R : Runs} (g : Good R) where
   pub in-sorted : Sorted leb (R .inKeys)
@@ -162,8 +162,8 @@ module _ {R : Runs} {keys : List ℕ} {p : Progress} {nk nt moments′ nk′ nt�
       let i = g .in-level in
       let o = g .out-level in
       record {
-        few = t .few;
         slotted = λ z. record {
+          few = t .few;
           same-m = front-long keys (f .mends) (t .few) (F .long-mends);
           same-f = front-long keys (f .ifrom) (t .few) (F .long-ifrom);
           same-e = front-long keys (f .ito) (t .few) (F .long-ito);
@@ -172,15 +172,14 @@ module _ {R : Runs} {keys : List ℕ} {p : Progress} {nk nt moments′ nk′ nt�
           short = omega (arith, i .values-long, g .in-few);
           apart = parts-apart i (g .in-ranked) (g .in-modest) (g .in-few) (t .reached .ascends) (t .reached .input) (S .in-spans) in-same;
           cut-m = S .moments-cut z;
+          same-of = front-long keys (f .ofrom) (t .few) (F .long-ofrom);
+          same-oe = front-long keys (f .oto) (t .few) (F .long-oto);
+          same-ot = o .times-long ∙ sym (o .values-long);
+          same-od = o .diffs-long ∙ sym (o .values-long);
+          out-few = omega (arith, o .values-long, g .out-few);
+          out-apart = parts-apart o (g .out-ranked) (g .out-modest) (g .out-few) (t .reached .ascends) (t .reached .out) (S .out-spans) out-same;
         };
-        same-f = front-long keys (f .ofrom) (t .few) (F .long-ofrom);
-        same-e = front-long keys (f .oto) (t .few) (F .long-oto);
-        same-t = o .times-long ∙ sym (o .values-long);
-        same-d = o .diffs-long ∙ sym (o .values-long);
-        out-few = omega (arith, o .values-long, g .out-few);
-        out-apart = parts-apart o (g .out-ranked) (g .out-modest) (g .out-few) (t .reached .ascends) (t .reached .out) (S .out-spans) out-same;
-        in-light = omega (arith, edits-light (R .inValues) (R .inTimes) (g .in-modest), i .diffs-long, g .in-few);
-        out-light = omega (arith, edits-light (R .outValues) (R .outTimes) (g .out-modest), o .diffs-long, g .out-few);
+        few = t .few;
         lent = l;
         fits = λ z h. rw (S .fixes-same) (t .fits (under z) (sym (S .large-same) ∙ h));
         counts = λ z h. rw (S .crossings-same) (t .counts (under z) (sym (S .large-same) ∙ h));
@@ -199,6 +198,12 @@ module _ {R : Runs} {keys : List ℕ} {p : Progress} {nk nt moments′ nk′ nt�
       let m = S .moments-are z in
       λ x. slotsOf keys (i x) (o x) (m x)) ∙ slots-at R keys
 
+  mended : {new : List Row} {crossed : ℕ} {r : Progress} {fk fv ft : List ℕ} {fd : List ℤ} {fk′ fv′ ft′ : List ℕ} {fd′ : List ℤ} → Mended new crossed s r fk fv ft fd fk′ fv′ ft′ fd′ → Mended new crossed p r fk fv ft fd fk′ fv′ ft′ fd′
+  mended {crossed = crossed} m = record {
+    listed = rw (S .fixes-same) at (m .listed);
+    crossings-are = λ h. m .crossings-are h ∙ ap (λ c. c + crossed) (S .crossings-same);
+  }
+
   pub turned : {mode : ℕ} {fk fv ft : List ℕ} {fd : List ℤ} {fk′ fv′ ft′ : List ℕ} {fd′ : List ℤ} {r : Progress} → Corrected mode keys inputs outputs (segments 0 (take n (f .mends)) moments′) s r fk fv ft fd fk′ fv′ ft′ fd′
       → Turned R mode keys p nk nt fk fv ft fd nk′ nt′ fk′ fv′ ft′ fd′ r
   turned C = record {
@@ -211,21 +216,5 @@ module _ {R : Runs} {keys : List ℕ} {p : Progress} {nk nt moments′ nk′ nt�
     next-keys = λ z. rw (C .pended-same) (S .next-keys (sym (C .over-same) ∙ z));
     next-times = λ z. rw (C .pended-same) (S .next-times (sym (C .over-same) ∙ z));
     stays-large = λ h. C .stays-large (S .large-same ∙ h);
-    settles = λ z h. (let o : s .over ≡ false = sym (C .over-same) ∙ z in rw (slots-are o, S .fixes-same, S .crossings-same, S .large-same) at (C .settles o (S .large-same ∙ h)));
+    settles = λ z h. (let o : s .over ≡ false = sym (C .over-same) ∙ z in mended (rw (slots-are o) at (C .settles o (S .large-same ∙ h))));
   }
-
--- ---- fronts of columns, lent as their parts from 0 on
-module _ {keys moments tv tt : List ℕ} {td : List ℤ} {ov ot : List ℕ} {od : List ℤ} {fk fv ft : List ℕ} {fd : List ℤ} {f : Fronts} (F : Full f)
-    (c : Corrects keys moments (take (length keys) (f .mends)) (take (length keys) (f .ifrom)) (take (length keys) (f .ito)) tv tt td (take (length keys) (f .ofrom)) (take (length keys) (f .oto)) ov ot od fk fv ft fd (f .progress)) where
-  pub fronts-within : (length keys ≤ length (f .mends)) × ((length keys ≤ length (f .ifrom)) × ((length keys ≤ length (f .ito)) × ((length keys ≤ length (f .ofrom)) × (length keys ≤ length (f .oto)))))
-  fronts-within =
-      let few : length keys ≤ 64 = c .few in
-      (omega (arith, F .long-mends), (omega (arith, F .long-ifrom), (omega (arith, F .long-ito), (omega (arith, F .long-ofrom), omega (arith, F .long-oto)))))
-
-  pub fronts-ask : Corrects keys moments (part 0 (length keys) (f .mends)) (part 0 (length keys) (f .ifrom)) (part 0 (length keys) (f .ito)) tv tt td (part 0 (length keys) (f .ofrom)) (part 0 (length keys) (f .oto)) ov ot od fk fv ft fd (f .progress)
-  fronts-ask = rw (sub-zero (length keys)) c
-
-  pub fronts-give : {mode : ℕ} {r : Progress} {fk′ fv′ ft′ : List ℕ} {fd′ : List ℤ}
-      → Corrected mode keys (partsOf (part 0 (length keys) (f .ifrom)) (part 0 (length keys) (f .ito)) (edits tv tt td)) (partsOf (part 0 (length keys) (f .ofrom)) (part 0 (length keys) (f .oto)) (edits ov ot od)) (segments 0 (part 0 (length keys) (f .mends)) moments) (f .progress) r fk fv ft fd fk′ fv′ ft′ fd′
-      → Corrected mode keys (partsOf (take (length keys) (f .ifrom)) (take (length keys) (f .ito)) (edits tv tt td)) (partsOf (take (length keys) (f .ofrom)) (take (length keys) (f .oto)) (edits ov ot od)) (segments 0 (take (length keys) (f .mends)) moments) (f .progress) r fk fv ft fd fk′ fv′ ft′ fd′
-  fronts-give g = rw (sub-zero (length keys)) at g

@@ -16,8 +16,8 @@ use Rattle.rules.specs.Discover.{State}
 use Rattle.rules.specs.Call.{Request, together, changed, editsOf, timesOf, pendingOf}
 use Rattle.keys.specs.Spans.{Level}
 use Rattle.keys.proofs.Ranked.{Ranked, Modest}
-use Rattle.finding.specs.Tallies.{mostInput}
-use Rattle.rounds.specs.Slots.{Slot}
+use Rattle.tallies.specs.Tallied.{mostInput}
+use Rattle.slots.specs.Slots.{Slot}
 use Rattle.seeking.specs.Sought.{foundIn}
 
 pub record Runs : Type 0 where

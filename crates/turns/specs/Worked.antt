@@ -1,6 +1,6 @@
 -- One window's turn: it is searched, its keys' moments and pended times are found, and its rounds are settled.
 --
--- LentWork: the memory of a call's windows. LentFronts, Full: what its first half asks of it, and the columns of what that finds
+-- LentWork: the memory of a call's windows. LentFronts: what its first half asks of it
 -- Takes: what a window's turn asks. Turned: what it leaves
 use Prim.Native.Nat.{ℕ, _≤_, _<_, _^_}
 use mathlib.Core.Bool.{true, false}
@@ -9,18 +9,16 @@ use mathlib.Core.Path.{_≡_}
 use lib.IntN.{ℤ}
 use lib.ListN.{length}
 use Rattle.grid.specs.Records.{mostRecords}
-use Rattle.rules.specs.Discover.{mostMoments}
 use Rattle.backends.specs.Columns.{Column}
-use Rattle.finding.specs.Searched.{endFrom}
-use Rattle.finding.specs.Tallies.{mostWindow}
+use Rattle.searches.specs.Searched.{endFrom}
+use Rattle.tallies.specs.Tallied.{mostWindow}
 use Rattle.finding.specs.Windowed.{pendedRow, firstsOf, secondsOf, windowOver}
-use Rattle.rounds.specs.Slots.{windowRows, windowCrossings}
-use Rattle.correcting.specs.Settle.{Settles, LentFixes}
+use Rattle.slots.specs.Slots.{windowRows, windowCrossings}
+use Rattle.fixing.specs.Settle.{LentFixes}
 use Rattle.seeking.specs.Sought.{Reached}
 use Rattle.progress.specs.declared.Progress.{Progress}
-use Rattle.turns.specs.declared.Fronts.{Fronts}
 use Rattle.turns.specs.Runs.{Runs, Good, foundOf, slotAt}
-use Rattle.mending.specs.Corrected.{settledOf, Wide}
+use Rattle.mending.specs.Corrected.{Mended, Wide}
 
 pub record LentWork (moments uv ut : List ℕ) (ud : List ℤ) (iv : List ℕ) (id : List ℤ) (ov : List ℕ) (od cd : List ℤ) (wv seeds output tracked nk nt fk fv ft : List ℕ) (fd : List ℤ) (res : List ℕ) : Type 0 where
   pub moments-room : mostWindow < length moments
@@ -52,14 +50,6 @@ pub record LentFronts (keys seeds uv ut : List ℕ) (ud : List ℤ) (output res 
   pub long-nt : length nt ≡ mostRecords
   pub next-few : p .pended ≤ mostRecords
 
--- the columns of what is found are of 64 keys
-pub record Full (f : Fronts) : Type 0 where
-  pub long-mends : length (f .mends) ≡ 64
-  pub long-ifrom : length (f .ifrom) ≡ 64
-  pub long-ito : length (f .ito) ≡ 64
-  pub long-ofrom : length (f .ofrom) ≡ 64
-  pub long-oto : length (f .oto) ≡ 64
-
 pub record Takes (R : Runs) (keys : List ℕ) (p : Progress) : Type 0 where
   pub good : Good R
   pub few : length keys ≤ 64
@@ -78,4 +68,4 @@ pub record Turned (R : Runs) (mode : ℕ) (keys : List ℕ) (p : Progress) (nk n
   pub next-keys : r .over ≡ false → Column nk (p .pended) (firstsOf (pendedRow keys (map (foundOf R) keys))) nk′ (r .pended)
   pub next-times : r .over ≡ false → Column nt (p .pended) (secondsOf (pendedRow keys (map (foundOf R) keys))) nt′ (r .pended)
   pub stays-large : p .large ≡ true → r .large ≡ true
-  pub settles : r .over ≡ false → p .large ≡ false → Settles (windowRows mode mostMoments (map (slotAt R) keys)) (windowCrossings mode mostMoments (map (slotAt R) keys)) (settledOf p) (settledOf r) fk fv ft fd fk′ fv′ ft′ fd′
+  pub settles : r .over ≡ false → p .large ≡ false → Mended (windowRows mode (map (slotAt R) keys)) (windowCrossings mode (map (slotAt R) keys)) p r fk fv ft fd fk′ fv′ ft′ fd′

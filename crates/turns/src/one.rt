@@ -1,6 +1,6 @@
 // One window's turn.
-use crate::halves::correct_fronts;
-use crate::halves::seek_fronts;
+use crate::first::seek_fronts;
+use fronts::correct_fronts;
 use progress::Progress;
 ghost use Rattle.turns.specs.Runs.{runs};
 ghost use Rattle.turns.specs.Worked.{LentWork, Takes, Turned};

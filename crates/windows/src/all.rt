@@ -1,9 +1,9 @@
 // The windows of a call, from the first to the last.
 use answers::Course;
 use looping::course;
-use looping::goes_on;
 use looping::window_end;
 use progress::Progress;
+use progress::goes_on;
 use turns::work_window;
 ghost use Rattle.turns.specs.Runs.{runs};
 ghost use Rattle.turns.specs.Worked.{LentWork};

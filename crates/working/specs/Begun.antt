@@ -10,7 +10,7 @@ use Rattle.grid.specs.Records.{Columns}
 use Rattle.rules.specs.Memory.{Lent, lentWell, requestOf}
 use Rattle.rules.proofs.Statuses.{Works}
 use Rattle.input.specs.Formed.{Fits}
-use Rattle.finding.specs.Tallies.{mostInput}
+use Rattle.tallies.specs.Tallied.{mostInput}
 use Rattle.demands.specs.Lending.{sizes}
 
 pub record Begins (l : Lent) : Type 0 where

@@ -8,7 +8,7 @@ use Rattle.answering.proofs.call.Tie as tie
 use Rattle.answering.proofs.call.Reads as reads
 use Rattle.answering.proofs.call.Lts as lts
 use Rattle.answering.proofs.bytes_of.Reads as bytes-of-reads
-use Rattle.answering.proofs.results_of.Reads as results-of-reads
+use Rattle.telling.proofs.results_of.Reads as results-of-reads
 use Rattle.writing.proofs.write_answer.Reads as write-answer-reads
 
 -- src/lib.rt:102:9

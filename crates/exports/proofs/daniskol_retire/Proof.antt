@@ -5,7 +5,7 @@ use Rattle.exports.proofs.daniskol_retire.Tie as tie
 use Rattle.exports.proofs.daniskol_retire.Reads as reads
 use Rattle.exports.proofs.daniskol_retire.Lts as lts
 use Rattle.retire.proofs.retire.Reads as retire-reads
-use Rattle.exports.proofs.tell.Reads as tell-reads
+use Rattle.telling.proofs.tell.Reads as tell-reads
 
 -- src/lib.rt:100:9
 returns : tie.Need-returns

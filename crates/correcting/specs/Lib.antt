@@ -1,2 +1,0 @@
-pub mod Back
-pub mod Settle

@@ -1,0 +1,5 @@
+pub mod Left
+pub mod Noting
+pub mod InRange
+pub mod Corrected
+pub mod Slotting

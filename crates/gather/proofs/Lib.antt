@@ -1,0 +1,11 @@
+pub mod Columns
+pub mod Ends
+pub mod Bounds
+pub mod Buffers
+pub mod Joining
+pub mod Moving
+pub mod Within
+pub mod Dating
+pub mod Meeting
+pub mod Under
+pub mod Loading

@@ -1,0 +1,4 @@
+pub mod Merged
+pub mod Turned
+pub mod Going
+pub mod Settling

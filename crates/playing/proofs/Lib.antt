@@ -1,4 +1,0 @@
-pub mod Alike
-pub mod Turning
-pub mod Beginning
-pub mod Playing

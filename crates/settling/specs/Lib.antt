@@ -1,2 +1,0 @@
-pub mod Slotted
-pub mod Rounds

@@ -1,0 +1,1 @@
+// The rounds of a window, key by key.

@@ -1,0 +1,2 @@
+pub mod Counting
+mod Appending
