@@ -32,7 +32,7 @@ fn extent(from: &[usize], to: &[usize]) -> usize
     0
 }
 
-// Whether a collapsed replay is the faster way: some slot has many moments, and the slots have many records. Both ways have one contract.
+// Whether a collapsed replay is the faster way: some key has many moments, and the keys have many records. Both ways have one contract.
 fn pays_to_replay(
     mends: &[usize],
     from: &[usize],

@@ -1,4 +1,4 @@
-// A slot's corrections of a round, merged by value into its output.
+// A round's correction, merged by value into a key's output.
 use sorting::left_first;
 use times::PackedTime;
 ghost use Rattle.backends.specs.Columns.{entries};
