@@ -5,6 +5,8 @@ extern "C" {
     pub fn daniskol_diffs_size() -> usize;
     pub fn daniskol_moments_size() -> usize;
     pub fn daniskol_column_size() -> usize;
+    pub fn daniskol_moments_needed(width: u64, old: usize, newkeys: *const u64, newkeys_len: usize, pendingkeys: *const u64, pendingkeys_len: usize) -> usize;
+    pub fn daniskol_column_needed(old: usize, new: usize) -> usize;
     pub fn daniskol_text_size() -> usize;
 
     // Returns how many bytes of the reply were written: none where `text` is shorter than the longest reply.

@@ -186,8 +186,33 @@ fn zeros<T: Clone + Default>(n: usize) -> Box<[T]> {
     vec![T::default(); n].into_boxed_slice()
 }
 
-fn packed(ts: &[Time]) -> Vec<u64> {
-    ts.iter().map(|t| t.packed()).collect()
+// Times, packed: in place where they are as few as a frontier may have.
+struct Packed {
+    few: [u64; 16],
+    many: Vec<u64>,
+    len: usize,
+}
+
+impl Packed {
+    fn new(ts: &[Time]) -> Packed {
+        let mut p = Packed { few: [0; 16], many: Vec::new(), len: ts.len() };
+        if ts.len() <= p.few.len() {
+            for (slot, t) in p.few.iter_mut().zip(ts) {
+                *slot = t.packed();
+            }
+        } else {
+            p.many = ts.iter().map(|t| t.packed()).collect();
+        }
+        p
+    }
+}
+
+impl std::ops::Deref for Packed {
+    type Target = [u64];
+
+    fn deref(&self) -> &[u64] {
+        if self.many.is_empty() { &self.few[..self.len] } else { &self.many }
+    }
 }
 
 fn unpacked(ts: &[u64]) -> Vec<Time> {
@@ -232,14 +257,22 @@ impl Tactic {
     ///
     /// A refused call changes nothing: the pending list is that of the last accepted one.
     pub fn retire(&mut self, old: Run<'_>, new: Run<'_>, out: Run<'_>, lower: &[Time], upper: &[Time], held: &[Time]) -> Result<Answer, Refusal> {
-        let (lower, upper, held) = (packed(lower), packed(upper), packed(held));
+        let (lower, upper, held) = (Packed::new(lower), Packed::new(upper), Packed::new(held));
         let mode = match self.mode {
             Mode::Count => 1,
             Mode::Distinct => 2,
         };
         let mut counts = [0u64; 6];
-        let [tk, tv, tt, uv, ut] = &mut self.columns;
-        let [td, ud] = &mut self.column_diffs;
+        // A call clears the work memory that it is lent: of what self owns it is lent as much as it needs. The rest is zero and stays so.
+        let (m, n) = unsafe {
+            (
+                ffi::daniskol_moments_needed(self.width, old.keys.len(), new.keys.as_ptr(), new.keys.len(), self.pending_keys.as_ptr(), self.pending_keys.len()),
+                ffi::daniskol_column_needed(old.keys.len(), new.keys.len()),
+            )
+        };
+        let moments = &mut self.moments[..m];
+        let [tk, tv, tt, uv, ut] = self.columns.each_mut().map(|c| &mut c[..n]);
+        let [td, ud] = self.column_diffs.each_mut().map(|c| &mut c[..n]);
         // Each pointer is a live slice's with its length; what is lent mutably is owned by self and lent once.
         let status = unsafe {
             ffi::daniskol_retire(
@@ -265,7 +298,7 @@ impl Tactic {
                 counts.as_mut_ptr(), counts.len(),
                 self.numbers.as_mut_ptr(), self.numbers.len(),
                 self.diffs.as_mut_ptr(), self.diffs.len(),
-                self.moments.as_mut_ptr(), self.moments.len(),
+                moments.as_mut_ptr(), moments.len(),
                 tk.as_mut_ptr(), tk.len(),
                 tv.as_mut_ptr(), tv.len(),
                 tt.as_mut_ptr(), tt.len(),

@@ -90,3 +90,17 @@ fn lines_are_answered_as_the_program_answers_them() {
     }
     assert_eq!(daniskol::answer(b""), b"status=20\nline=1\nend=\n");
 }
+
+// A call is lent as much of the tactic's memory as it needs: what a long call leaves there must not show in a short one, nor the other way round.
+#[test]
+fn calls_of_all_lengths_share_memory() {
+    let runs: Vec<Vec<u64>> = [1, 300, 2, 64, 65, 1, 129].map(|n| (0..n).map(|i| at(i, 0)).collect()).to_vec();
+    let mut shared = Tactic::new(Mode::Count, 64);
+    for times in &runs {
+        let (keys, values, diffs) = (vec![7; times.len()], vec![1; times.len()], vec![1; times.len()]);
+        let new = Run { keys: &keys, values: &values, times, diffs: &diffs };
+        let alone = Tactic::new(Mode::Count, 64).retire(Run::EMPTY, new, Run::EMPTY, &START, &[], &START).unwrap();
+        assert_eq!(alone.fixes.len(), 2 * times.len() - 1);
+        assert_eq!(shared.retire(Run::EMPTY, new, Run::EMPTY, &START, &[], &START).unwrap(), alone);
+    }
+}

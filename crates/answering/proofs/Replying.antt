@@ -21,12 +21,13 @@ use Rattle.form.specs.Show.{showAnswer, showBad, reply}
 use Rattle.form.proofs.Room.{mostText}
 use Rattle.checks.specs.Checks.{columns}
 use Rattle.demands.specs.Answers.{Retires}
-use Rattle.demands.specs.Lending.{sizes, memory, lent}
+use Rattle.demands.specs.Lending.{published, needed, memory, lent}
+use Rattle.demands.proofs.Lending.{published-suffices}
 use Rattle.reading.specs.declared.Counts.{Counts}
 use Rattle.reading.specs.declared.Request.{Request}
 use Rattle.reading.specs.declared.Request.the-variants.{Bad, Asked as IsAsked}
 use Rattle.reading.specs.Told.{answered, RequestRead}
-use Rattle.reading.proofs.Lent.{part-is, call-lent}
+use Rattle.reading.proofs.Lent.{part-is, lentOf, call-lent}
 use Rattle.writing.specs.declared.Results.{Results}
 use Rattle.writing.specs.declared.Text.{Text}
 use Rattle.writing.specs.Answered.{standing, memoryFits, Written}
@@ -157,7 +158,7 @@ lend m l = lent (l .mode) (l .width) (l .lower) (l .upper) (l .held) (l .old) (l
 abbrev Prints : Results → Memory → List ℕ → List ℕ → Text → Type 0
 Prints a m bytes bytes′ t = Written (memoryFits a (length (m .numbers)) (length (m .diffs))) (showAnswer (standing a (m .numbers) (m .diffs))) bytes bytes′ t
 
-results-are : {l : Lent} {o : Outcome} {m : Memory} {a : Answer} → callLent sizes l ≡ a → Retires sizes l o m → resultsOf o ≡ laid a
+results-are : {l : Lent} {o : Outcome} {m : Memory} {a : Answer} → callLent (needed l) l ≡ a → Retires needed l o m → resultsOf o ≡ laid a
 results-are e R = λ i. record {
   status = (R .status-is ∙ ap (λ (a : Answer). a .status) e) i;
   crossings = (R .crossings-are ∙ ap (λ (a : Answer). a .crossings) e) i;
@@ -180,7 +181,7 @@ roomy-memory :
     → 8192 ≡ length outputTimes
     → 8192 ≡ length inputDiffs
     → 8192 ≡ length outputDiffs
-    → roomy sizes (memory numbers diffs moments inputKeys inputValues inputTimes outputValues outputTimes inputDiffs outputDiffs) ≡ true
+    → roomy published (memory numbers diffs moments inputKeys inputValues inputTimes outputValues outputTimes inputDiffs outputDiffs) ≡ true
 unfolding roomy
 roomy-memory numbers moments inputKeys inputValues inputTimes outputValues outputTimes diffs inputDiffs outputDiffs a b c d e f g h i j = rw (← a, ← b, ← c, ← d, ← e, ← f, ← g, ← h, ← i, ← j)
 
@@ -208,7 +209,7 @@ pub call-replied :
     → 8192 ≡ length inputDiffs
     → 8192 ≡ length outputDiffs
     → mostText ≤ length bytes
-    → Retires sizes (lent mode width lower upper held old new out ks ts (memory numbers diffs moments inputKeys inputValues inputTimes outputValues outputTimes inputDiffs outputDiffs)) o m′
+    → Retires needed (lent mode width lower upper held old new out ks ts (memory numbers diffs moments inputKeys inputValues inputTimes outputValues outputTimes inputDiffs outputDiffs)) o m′
     → a ≡ resultsOf o
     → Prints a m′ bytes bytes′ t
     → n ≡ bytesOf t
@@ -218,7 +219,8 @@ pub call-replied :
 call-replied {numbers} {moments} {inputKeys} {inputValues} {inputTimes} {outputValues} {outputTimes} {diffs} {inputDiffs} {outputDiffs} {mode} {width} {lower} {upper} {held} {old} {new} {out} {ks} {ts} {m′ = m′} {bytes = bytes} {bytes′} {a} {t} e1 e2 e3 e4 e5 e6 e7 e8 e9 e10 room R ea w en s A =
     let q : AnyRequest = A .request in
     let m : Memory = memory numbers diffs moments inputKeys inputValues inputTimes outputValues outputTimes inputDiffs outputDiffs in
-    let c : callLent sizes (lent mode width lower upper held old new out ks ts m) ≡ call q = ap (λ l. callLent sizes (lend m l)) (A .as-lent) ∙ call-lent sizes q m (roomy-memory numbers moments inputKeys inputValues inputTimes outputValues outputTimes diffs inputDiffs outputDiffs e1 e2 e3 e4 e5 e6 e7 e8 e9 e10) in
+    let L : Lent = lent mode width lower upper held old new out ks ts m in
+    let c : callLent (needed L) L ≡ call q = ap (λ l. callLent (needed (lend m l)) (lend m l)) (A .as-lent) ∙ call-lent (needed (lentOf q m)) q m (published-suffices (lentOf q m) m (roomy-memory numbers moments inputKeys inputValues inputTimes outputValues outputTimes diffs inputDiffs outputDiffs e1 e2 e3 e4 e5 e6 e7 e8 e9 e10)) in
     let em : m′ ≡ after (call q) m = R .memory-is ∙ ap (λ (x : Answer). after x m) c in
     let er : a ≡ laid (call q) = ea ∙ results-are c R in
     let w′ : Prints (laid (call q)) (after (call q) m) bytes bytes′ t = subst (λ (x : Results × Memory). Prints (x .0) (x .1) bytes bytes′ t) (λ i. (er i, em i)) w in

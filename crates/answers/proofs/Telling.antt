@@ -6,7 +6,7 @@ use Prim.Native.Nat.{ℕ, _+_, _-_, _≤_, _<_, min}
 use native.Mathlib.Nat.{sub-zero}
 use native.Mathlib.Omega.{arith}
 use mathlib.Core.Bool.{true, false, _&&_}
-use mathlib.Core.List.{List, []}
+use mathlib.Core.List.{List}
 use mathlib.Core.Path.{_≡_, refl, sym}
 use lib.Dec.{leb}
 use lib.IntN.{ℤ}
@@ -75,8 +75,8 @@ module _ (c : Course) (lower upper held : List ℕ) (rs : List Row) (ks ts : Lis
     concluded-worked h l = rw (e, pairs-times ks ts (sym same), le-ltb mostTimes (length (minimal ts)) h, l)
 
 -- ---- the call, branch by branch
-module _ {c : Course} {lower upper held keys values times : List ℕ} {diffs : List ℤ} {pendkeys pendtimes out places work res : List ℕ} {rd : List ℤ}
-    (C : Concludes c lower upper held keys values times diffs pendkeys pendtimes out places work res rd) where
+module _ {most : ℕ} {c : Course} {lower upper held keys values times : List ℕ} {diffs : List ℤ} {pendkeys pendtimes out places work res : List ℕ} {rd : List ℤ}
+    (C : Concludes most c lower upper held keys values times diffs pendkeys pendtimes out places work res rd) where
   abbrev corrections : List Row
   corrections = rows (take (c .fixes) keys) (take (c .fixes) values) (take (c .fixes) times) (take (c .fixes) diffs)
 
@@ -115,12 +115,12 @@ module _ {c : Course} {lower upper held keys values times : List ℕ} {diffs : L
         module _ (l : c .large ≡ false) where
           pub ready : Ready keys values times diffs (c .fixes) pendkeys pendtimes (c .pended) (take (f - 0) front′) lower upper held out places work res rd
           ready = record {
-            few-fixes = C .few-fixes e l;
+            few-fixes = omega (arith, C .few-fixes e l, C .room-few);
             in-keys = omega (arith, C .few-fixes e l, C .room-keys);
             in-values = omega (arith, C .few-fixes e l, C .room-values);
             in-times = omega (arith, C .few-fixes e l, C .room-times);
             in-diffs = omega (arith, C .few-fixes e l, C .room-diffs);
-            few-pending = C .few-pended e;
+            few-pending = omega (arith, C .few-pended e, C .room-few);
             in-pendkeys = omega (arith, C .few-pended e, C .room-pendkeys);
             in-pendtimes = pended-within;
             few-frontier = rw frontier-is few;

@@ -2,7 +2,7 @@
 --
 -- Tells a r: r is what is said of the answer a, and result memory holds it
 -- TellsQuiet: the same of a call that is quiet
--- concluded: the answer of a call whose windows are done: 18 before 19. Concludes: what it asks
+-- concluded: the answer of a call whose windows are done: 18 before 19. Concludes most: what it asks; for so many corrections and pending entries there is room
 use Prim.Native.Nat.{ℕ, _≤_}
 use mathlib.Core.Bool.{false, cond, _||_}
 use mathlib.Core.List.{List, map}
@@ -37,20 +37,21 @@ concluded c lower upper held rs ps =
     let fits : Answer = cond (c .large) (refused 19) (published (c .crossings) lower upper held rs ps f) in
     cond (c .over || ltb mostTimes (length f)) (refused 18) fits
 
-pub record Concludes (c : Course) (lower upper held keys values times : List ℕ) (diffs : List ℤ) (pendkeys pendtimes out places work res : List ℕ) (rd : List ℤ) : Type 0 where
-  pub few-fixes : c .over ≡ false → c .large ≡ false → c .fixes ≤ mostRecords
-  pub few-pended : c .over ≡ false → c .pended ≤ mostRecords
-  pub room-keys : mostRecords ≤ length keys
-  pub room-values : mostRecords ≤ length values
-  pub room-times : mostRecords ≤ length times
-  pub room-diffs : mostRecords ≤ length diffs
-  pub room-pendkeys : mostRecords ≤ length pendkeys
-  pub room-pendtimes : mostRecords ≤ length pendtimes
+pub record Concludes (most : ℕ) (c : Course) (lower upper held keys values times : List ℕ) (diffs : List ℤ) (pendkeys pendtimes out places work res : List ℕ) (rd : List ℤ) : Type 0 where
+  pub few-fixes : c .over ≡ false → c .large ≡ false → c .fixes ≤ most
+  pub few-pended : c .over ≡ false → c .pended ≤ most
+  pub room-few : most ≤ mostRecords
+  pub room-keys : most ≤ length keys
+  pub room-values : most ≤ length values
+  pub room-times : most ≤ length times
+  pub room-diffs : most ≤ length diffs
+  pub room-pendkeys : most ≤ length pendkeys
+  pub room-pendtimes : most ≤ length pendtimes
   pub few-lower : length lower ≤ mostTimes
   pub few-upper : length upper ≤ mostTimes
   pub few-held : length held ≤ mostTimes
-  pub room-out : mostRecords ≤ length out
-  pub room-places : mostRecords ≤ length places
-  pub room-work : mostRecords ≤ length work
+  pub room-out : most ≤ length out
+  pub room-places : most ≤ length places
+  pub room-work : most ≤ length work
   pub wide-numbers : numbersSize ≤ length res
   pub wide-diffs : mostRecords ≤ length rd

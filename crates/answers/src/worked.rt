@@ -5,7 +5,7 @@ use crate::others::say_nothing;
 use results::next_frontier;
 use results::publish;
 use times::MOST_TIMES;
-ghost use lib.ListN.{take};
+ghost use lib.ListN.{length, take};
 ghost use Rattle.grid.specs.Records.{rows, pairs};
 ghost use Rattle.results.specs.Told.{Ready, published};
 ghost use Rattle.answers.specs.Tells.{Tells, Concludes, concluded};
@@ -79,7 +79,7 @@ pub fn conclude(
     res: &mut [u64],
     rd: &mut [i64],
 ) -> Outcome
-    requires { ⌜ Concludes c (now lower) (now upper) (now held) (now keys) (now values) (now times) (now diffs) (now pendkeys) (now pendtimes) (now out) (now places) (now work) (now res) (now rd) ⌝ }
+    requires { ⌜ Concludes (length (now keys)) c (now lower) (now upper) (now held) (now keys) (now values) (now times) (now diffs) (now pendkeys) (now pendtimes) (now out) (now places) (now work) (now res) (now rd) ⌝ }
     ensures { λ r. ⌜ Tells (concluded c (now (lower .entry)) (now (upper .entry)) (now (held .entry)) (rows (take (c .fixes) (now (keys .entry))) (take (c .fixes) (now (values .entry))) (take (c .fixes) (now (times .entry))) (take (c .fixes) (now (diffs .entry)))) (pairs (take (c .pended) (now (pendkeys .entry))) (take (c .pended) (now (pendtimes .entry))))) r (now (res .entry)) (now (res .exit)) (now (rd .entry)) (now (rd .exit)) ⌝ }
 {
     if c.over {

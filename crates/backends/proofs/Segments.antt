@@ -14,7 +14,7 @@ use Rattle.grid.specs.Consolidate.{consolidate}
 use Rattle.grid.proofs.Sizes.{sizing-one, mass-consolidate, mass-one}
 use Rattle.grid.proofs.Loops.{drop-more}
 use Rattle.rules.specs.Backends.{Sums}
-use Rattle.backends.specs.Crossing.{part, segments, ends, Cut, next}
+use Rattle.backends.specs.Segments.{part, segments, ends, Cut, next}
 
 pub part-length : {A : Type 0} (f t : ℕ) (l : List A) → f ≤ t → t ≤ length l → length (part f t l) ≡ t - f
 part-length f t l h k = length-take-le (t - f) (drop f l) (rw length-drop (omega arith))

@@ -1,3 +1,3 @@
 pub mod Columns
 pub mod Correct
-pub mod Crossing
+pub mod Segments

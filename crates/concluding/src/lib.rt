@@ -1,112 +1,51 @@
-// The answer of a call that works, once its input is formed.
+// What answering a call asks and leaves: of every call, and of a call of few records, which is tried in less memory first.
 use answers::Outcome;
-use answers::conclude;
-use demands::COLUMN_SIZE;
-use keys::changed_keys;
-use windows::work_windows;
-ghost use Rattle.turns.specs.Runs.{runs};
-ghost use Rattle.concluding.specs.Answered.{Answering, Answered};
+ghost use mathlib.Core.Bool.{true, false};
+ghost use mathlib.Core.Path.{_≡_};
+ghost use Rattle.concluding.specs.Answered.{Few};
 
-// Finds the changed keys, works their windows, and writes the answer. Memory of a fixed size that no caller has to lend is local here; after the
-// windows some of it is scratch once more.
-pub fn answer(
-    mode: u64,
-    width: usize,
-    lower: &[u64],
-    upper: &[u64],
-    held: &[u64],
-    newkeys: &[u64],
-    newtimes: &[u64],
-    pendingkeys: &[u64],
-    pendingtimes: &[u64],
-    tk: &[u64],
-    tv: &[u64],
-    tt: &[u64],
-    td: &[i64],
-    outkeys: &[u64],
-    outvalues: &[u64],
-    outtimes: &[u64],
-    outdiffs: &[i64],
-    moments: &mut [u64],
-    uv: &mut [u64],
-    ut: &mut [u64],
-    ud: &mut [i64],
-    res: &mut [u64],
-    rd: &mut [i64],
-) -> Outcome
-    requires { ⌜ Answering (runs (now upper) (now newkeys) (now newtimes) (now pendingkeys) (now pendingtimes) (now tk) (now tv) (now tt) (now td) (now outkeys) (now outvalues) (now outtimes) (now outdiffs)) width (now lower) (now held) (now moments) (now uv) (now ut) (now ud) (now res) (now rd) ⌝ }
-    ensures { λ r. ⌜ Answered (runs (now (upper .entry)) (now (newkeys .entry)) (now (newtimes .entry)) (now (pendingkeys .entry)) (now (pendingtimes .entry)) (now (tk .entry)) (now (tv .entry)) (now (tt .entry)) (now (td .entry)) (now (outkeys .entry)) (now (outvalues .entry)) (now (outtimes .entry)) (now (outdiffs .entry))) mode width (now (lower .entry)) (now (held .entry)) r (now (res .entry)) (now (res .exit)) (now (rd .entry)) (now (rd .exit)) ⌝ }
+// What a try came to: the answer, if there was room for it.
+pub struct Tried {
+    pub outcome: Outcome,
+    pub fits: bool,
+}
+
+// A try for which there was no room.
+pub fn no_room() -> Tried
+    ensures { λ r. ⌜ r .fits ≡ false ⌝ }
 {
-    let mut keys = [0u64; 8192];
-    let n = changed_keys(newkeys, pendingkeys, &mut keys);
-    let mut iv = [0u64; 8192];
-    let mut id = [0i64; 8192];
-    let mut ov = [0u64; 8192];
-    let mut od = [0i64; 8192];
-    let mut cd = [0i64; 16384];
-    let mut wv = [0u64; 8192];
-    let mut seeds = [0u64; 4096];
-    let mut output = [0u64; 4096];
-    let mut tracked = [0u64; 5121];
-    let mut nk = [0u64; 4096];
-    let mut nt = [0u64; 4096];
-    let mut fk = [0u64; 4096];
-    let mut fv = [0u64; 4096];
-    let mut ft = [0u64; 4096];
-    let mut fd = [0i64; 4096];
-    let c = work_windows(
-        mode,
-        width,
-        upper,
-        &keys[0..n],
-        newkeys,
-        newtimes,
-        pendingkeys,
-        pendingtimes,
-        tk,
-        tv,
-        tt,
-        td,
-        outkeys,
-        outvalues,
-        outtimes,
-        outdiffs,
-        moments,
-        &mut uv[0..COLUMN_SIZE],
-        &mut ut[0..COLUMN_SIZE],
-        &mut ud[0..COLUMN_SIZE],
-        &mut iv,
-        &mut id,
-        &mut ov,
-        &mut od,
-        &mut cd,
-        &mut wv,
-        &mut seeds,
-        &mut output,
-        &mut tracked,
-        &mut nk,
-        &mut nt,
-        &mut fk,
-        &mut fv,
-        &mut ft,
-        &mut fd,
-        res,
-    );
-    conclude(
-        lower,
-        upper,
-        held,
-        &fk,
-        &fv,
-        &ft,
-        &fd,
-        &nk,
-        &nt,
-        c,
-        &mut iv,
-        &mut ov,
-        &mut wv,
-        res,
-        rd,
-    )
+    Tried {
+        outcome: Outcome {
+            status: 0,
+            crossings: 0,
+            tiles: 0,
+            fixes: 0,
+            pending: 0,
+            frontier: 0,
+        },
+        fits: false,
+    }
+}
+
+// Whether a call has so few records that it is tried in less memory. A count makes two corrections at most moments, of which there are at least as
+// many as new times.
+pub fn is_few(mode: u64, new: usize, pending: usize, input: usize, out: usize) -> bool
+    ensures { λ r. ⌜ (r ≡ true → Few new pending input out) ⌝ }
+{
+    if new > 64 {
+        return false;
+    }
+    if pending > 64 {
+        return false;
+    }
+    if input > 128 {
+        return false;
+    }
+    if out > 64 {
+        return false;
+    }
+    if mode == 2 {
+        return true;
+    }
+    new + pending <= 32
 }

@@ -30,7 +30,7 @@ use Rattle.demands.specs.Exchanges.{Exchange, asked, answer, Follows, St
 use Rattle.answers.specs.declared.Outcome.{Outcome}
 use Rattle.demands.proofs.Read.{answer-read}
 
-module _ (z : Sizes) (l : Lent) (r : Outcome) (m : Memory) (R : Retires z l r m) where
+module _ (z : Lent → Sizes) (l : Lent) (r : Outcome) (m : Memory) (R : Retires z l r m) where
   abbrev q : Request
   q = requestOf l
 
@@ -39,25 +39,25 @@ module _ (z : Sizes) (l : Lent) (r : Outcome) (m : Memory) (R : Retires z l r m)
   unfolding refused
   retire-status =
       rw (R .status-is)
-      (by-test (lentWell z l) (λ e. rw (lent-well z l e) (call-one-of q)) (λ e. rw (lent-ill z l e) refl))
+      (by-test (lentWell (z l) l) (λ e. rw (lent-well (z l) l e) (call-one-of q)) (λ e. rw (lent-ill (z l) l e) refl))
 
   pub retire-untouched : 11 ≤ r .status → r .status ≤ 17 → m ≡ l .memory
-  retire-untouched h k = R .memory-is ∙ memory-untouched (callLent z l) (l .memory) (rw (R .status-is) at h) (rw (R .status-is) at k)
+  retire-untouched h k = R .memory-is ∙ memory-untouched (callLent (z l) l) (l .memory) (rw (R .status-is) at h) (rw (R .status-is) at k)
 
   pub retire-cleared : 17 < r .status → Cleared (l .memory) m
-  retire-cleared h = rw (R .memory-is) (lent-cleared z l (rw (R .status-is) at h))
+  retire-cleared h = rw (R .memory-is) (lent-cleared (z l) l (rw (R .status-is) at h))
 
   -- ---- demand 2
-  pub retire-call : lentWell z l ≡ true → answerIn r m ≡ call q
-  retire-call e = answer-read z l r m R ∙ lent-well z l e
+  pub retire-call : lentWell (z l) l ≡ true → answerIn r m ≡ call q
+  retire-call e = answer-read z l r m R ∙ lent-well (z l) l e
 
   -- ---- demand 3
   module _ (a : accepted (answerIn r m) ≡ true) where
     pub own-call : answerIn r m ≡ call q
     unfolding accepted refused
     own-call =
-        by-test (lentWell z l) retire-call
-        (λ e. clash false (sym (ap (λ (b : Answer). accepted b) (answer-read z l r m R ∙ lent-ill z l e)) ∙ a) refl)
+        by-test (lentWell (z l) l) retire-call
+        (λ e. clash false (sym (ap (λ (b : Answer). accepted b) (answer-read z l r m R ∙ lent-ill (z l) l e)) ∙ a) refl)
 
     taken : accepted (call q) ≡ true
     taken = sym (ap accepted own-call) ∙ a
@@ -77,15 +77,15 @@ module _ (z : Sizes) (l : Lent) (r : Outcome) (m : Memory) (R : Retires z l r m)
 
 -- the width changes nothing but crossings
 pub retire-width :
-    {z : Sizes} {l l′ : Lent} {r r′ : Outcome} {m m′ : Memory}
-    → Retires z l r m → Retires z l′ r′ m′ → lentWell z l ≡ true → lentWell z l′ ≡ true
+    {z : Lent → Sizes} {l l′ : Lent} {r r′ : Outcome} {m m′ : Memory}
+    → Retires z l r m → Retires z l′ r′ m′ → lentWell (z l) l ≡ true → lentWell (z l′) l′ ≡ true
     → (w : ℕ) → requestOf l′ ≡ atWidth w (requestOf l) → 1 ≤ l .width → l .width ≤ 64 → 1 ≤ w → w ≤ 64 → Agree (answerIn r′ m′) (answerIn r m)
 unfolding requestOf
 retire-width R R′ e e′ w same a b c d =
     rw (retire-call _ _ _ _ R e, retire-call _ _ _ _ R′ e′, same) (width-agrees _ w a b c d)
 
 -- a pending time waits, and is settled when its call comes
-pub retire-patience : {z : Sizes} {ps : List (ℕ × ℕ)} {lower : List ℕ} {es : List (Exchange z)} → Follows z ps lower es → (k t : ℕ) → lists ps k t ≡ true → StaysListed z k t es
+pub retire-patience : {z : Lent → Sizes} {ps : List (ℕ × ℕ)} {lower : List ℕ} {es : List (Exchange z)} → Follows z ps lower es → (k t : ℕ) → lists ps k t ≡ true → StaysListed z k t es
 retire-patience ends k t h = no-more
 retire-patience (passes-over e turned f) k t h = unheard turned (retire-patience f k t h)
 retire-patience {z} (goes-on e took f) k t h =

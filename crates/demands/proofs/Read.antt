@@ -176,26 +176,26 @@ results-read a m f e =
       frontier = frontier-read a f (replicate (length (m .numbers) - length (numbers a)) 0) i;
     })
 
-module _ (z : Sizes) (l : Lent) (r : Outcome) (m : Memory) (R : Retires z l r m) where
-  nothing-said : untouched (callLent z l) ≡ true → callLent z l ≡ refused (callLent z l .status)
+module _ (z : Lent → Sizes) (l : Lent) (r : Outcome) (m : Memory) (R : Retires z l r m) where
+  nothing-said : untouched (callLent (z l) l) ≡ true → callLent (z l) l ≡ refused (callLent (z l) l .status)
   unfolding refused
   nothing-said e =
-      by-test (lentWell z l)
-      (λ w. let h : 11 ≤ callLent z l .status = leb-true 11 (callLent z l .status) (and-l (leb 11 (callLent z l .status)) _ e) in
-      let k : 11 ≤ call (requestOf l) .status = rw (lent-well z l w) at h in
-      rw (lent-well z l w) (call-refused (requestOf l) (omega arith)))
-      (λ w. rw (lent-ill z l w) refl)
+      by-test (lentWell (z l) l)
+      (λ w. let h : 11 ≤ callLent (z l) l .status = leb-true 11 (callLent (z l) l .status) (and-l (leb 11 (callLent (z l) l .status)) _ e) in
+      let k : 11 ≤ call (requestOf l) .status = rw (lent-well (z l) l w) at h in
+      rw (lent-well (z l) l w) (call-refused (requestOf l) (omega arith)))
+      (λ w. rw (lent-ill (z l) l w) refl)
 
-  said : r ≡ counts (callLent z l)
+  said : r ≡ counts (callLent (z l) l)
   said = λ i. record { status = R .status-is i; crossings = R .crossings-are i; tiles = R .tiles-many i; fixes = R .fixes-many i; pending = R .pending-many i; frontier = R .frontier-many i }
 
-  pub answer-read : answerIn r m ≡ callLent z l
+  pub answer-read : answerIn r m ≡ callLent (z l) l
   answer-read =
       (λ i. answerIn (said i) (R .memory-is i))
-      ∙ by-test (untouched (callLent z l))
-      (λ e. let s = nothing-said e in ap (λ a. answerIn (counts a) (after (callLent z l) (l .memory))) s ∙ none-read (callLent z l .status) (after (callLent z l) (l .memory)) ∙ sym s)
-      (λ e. results-read (callLent z l) (l .memory) (lent-fits z l) e)
+      ∙ by-test (untouched (callLent (z l) l))
+      (λ e. let s = nothing-said e in ap (λ a. answerIn (counts a) (after (callLent (z l) l) (l .memory))) s ∙ none-read (callLent (z l) l .status) (after (callLent (z l) l) (l .memory)) ∙ sym s)
+      (λ e. results-read (callLent (z l) l) (l .memory) (lent-fits (z l) l) e)
 
 -- a call says and leaves one thing only
-pub retires-one : {z : Sizes} {l : Lent} {r r′ : Outcome} {m m′ : Memory} → Retires z l r m → Retires z l r′ m′ → (r ≡ r′) × (m ≡ m′)
+pub retires-one : {z : Lent → Sizes} {l : Lent} {r r′ : Outcome} {m m′ : Memory} → Retires z l r m → Retires z l r′ m′ → (r ≡ r′) × (m ≡ m′)
 retires-one {z} {l} {r} {r′} {m} {m′} R R′ = (said z l r m R ∙ sym (said z l r′ m′ R′), R .memory-is ∙ sym (R′ .memory-is))

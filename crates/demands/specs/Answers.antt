@@ -1,7 +1,8 @@
 -- "Result memory holds 4,096 corrections, 4,096 pending entries, 16 tiles with bounds of up to 31 times, 16 frontier times": what a call says
 -- and leaves there, and how its caller reads it.
 --
--- Retires z l r m: the call that was lent l, work memory being of the sizes z, says r and leaves m: the answer of the rules, at every status
+-- Retires z l r m: the call that was lent l, work memory needing the sizes that the rule z says for l, says r and leaves m: the answer of the rules,
+-- at every status
 -- Retired a m r m′: r is said of the answer a, and memory, which was m, holds what it holds after that answer
 -- columnsPast i: what lies past i columns. tileIn, tilesIn: tiles read from their numbers
 -- answerIn r m: the answer as it is read: so many corrections, pending entries, tiles and frontier times as the call says
@@ -18,14 +19,14 @@ use Rattle.arranging.specs.Arranged.{fixes}
 use Rattle.answers.specs.Tells.{Tells}
 use Rattle.answers.specs.declared.Outcome.{Outcome}
 
-pub record Retires (z : Sizes) (l : Lent) (r : Outcome) (m : Memory) : Type 0 where
-  pub status-is : r .status ≡ callLent z l .status
-  pub crossings-are : r .crossings ≡ callLent z l .crossings
-  pub tiles-many : r .tiles ≡ length (callLent z l .tiles)
-  pub fixes-many : r .fixes ≡ length (callLent z l .fixes)
-  pub pending-many : r .pending ≡ length (callLent z l .pending)
-  pub frontier-many : r .frontier ≡ length (callLent z l .frontier)
-  pub memory-is : m ≡ after (callLent z l) (l .memory)
+pub record Retires (z : Lent → Sizes) (l : Lent) (r : Outcome) (m : Memory) : Type 0 where
+  pub status-is : r .status ≡ callLent (z l) l .status
+  pub crossings-are : r .crossings ≡ callLent (z l) l .crossings
+  pub tiles-many : r .tiles ≡ length (callLent (z l) l .tiles)
+  pub fixes-many : r .fixes ≡ length (callLent (z l) l .fixes)
+  pub pending-many : r .pending ≡ length (callLent (z l) l .pending)
+  pub frontier-many : r .frontier ≡ length (callLent (z l) l .frontier)
+  pub memory-is : m ≡ after (callLent (z l) l) (l .memory)
 
 pub record Retired (a : Answer) (m : Memory) (r : Outcome) (m′ : Memory) : Type 0 where
   pub tells : Tells a r (m .numbers) (m′ .numbers) (m .diffs) (m′ .diffs)

@@ -15,7 +15,7 @@ use Rattle.rules.specs.Runs.{accepted, lists, Settled}
 use Rattle.demands.specs.Answers.{Retires, answerIn}
 use Rattle.answers.specs.declared.Outcome.{Outcome}
 
-module _ (z : Sizes) where
+module _ (z : Lent → Sizes) where
   pub record Exchange : Type 0 where
     pub lent : Lent
     pub outcome : Outcome

@@ -10,7 +10,7 @@ use lib.ListN.{length, drop}
 use Rattle.rules.specs.Memory.{Memory, Lent}
 use Rattle.form.proofs.Room.{mostText}
 use Rattle.demands.specs.Answers.{Retires}
-use Rattle.demands.specs.Lending.{sizes}
+use Rattle.demands.specs.Lending.{needed}
 use Rattle.answers.specs.declared.Outcome.{Outcome}
 use Rattle.answering.specs.Replied.{Replied}
 use Rattle.telling.specs.Said.{counted}
@@ -19,7 +19,7 @@ use Rattle.exports.specs.Exported.{Exported, Printed}
 pub export-short : (l : Lent) (counts : List ℕ) → length counts < 6 → Exported l counts counts (l .memory) 11
 export-short l counts h = record { short = λ _. record { refused = refl; same-counts = refl; same-memory = refl }; long = λ k. absurd (omega (arith, h, k)) }
 
-pub export-long : {l : Lent} {counts counts′ : List ℕ} {m : Memory} {o : Outcome} → 6 ≤ length counts → Retires sizes l o m → counts′ ≡ counted o ++ drop 6 counts → Exported l counts counts′ m (o .status)
+pub export-long : {l : Lent} {counts counts′ : List ℕ} {m : Memory} {o : Outcome} → 6 ≤ length counts → Retires needed l o m → counts′ ≡ counted o ++ drop 6 counts → Exported l counts counts′ m (o .status)
 export-long {o = o} h r c = record { short = λ k. absurd (omega (arith, h, k)); long = λ _. record { outcome = o; retires = r; status-is = refl; counts-are = c } }
 
 pub print-short : (text out : List ℕ) → length out < mostText → Printed text out out 0

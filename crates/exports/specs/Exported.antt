@@ -9,14 +9,14 @@ use lib.ListN.{length, drop}
 use Rattle.rules.specs.Memory.{Memory, Lent}
 use Rattle.form.proofs.Room.{mostText}
 use Rattle.demands.specs.Answers.{Retires}
-use Rattle.demands.specs.Lending.{sizes}
+use Rattle.demands.specs.Lending.{needed}
 use Rattle.answers.specs.declared.Outcome.{Outcome}
 use Rattle.answering.specs.Replied.{Replied}
 use Rattle.telling.specs.Said.{counted}
 
 pub record Told (l : Lent) (counts counts′ : List ℕ) (m : Memory) (r : ℕ) : Type 0 where
   pub outcome : Outcome
-  pub retires : Retires sizes l outcome m
+  pub retires : Retires needed l outcome m
   pub status-is : r ≡ outcome .status
   pub counts-are : counts′ ≡ counted outcome ++ drop 6 counts
 

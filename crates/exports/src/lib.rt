@@ -3,6 +3,8 @@ use answering::TEXT_SIZE;
 use answering::answer;
 use demands::COLUMN_SIZE;
 use demands::MOMENTS_SIZE;
+use demands::column_needed;
+use demands::moments_needed;
 use results::DIFFS_SIZE;
 use results::NUMBERS_SIZE;
 use retire::retire;
@@ -14,7 +16,7 @@ ghost use Rattle.form.specs.Show.{reply};
 ghost use Rattle.form.proofs.Room.{mostText};
 ghost use Rattle.grid.specs.Records.{mostRecords};
 ghost use Rattle.checks.specs.Checks.{columns};
-ghost use Rattle.demands.specs.Lending.{memory, lent};
+ghost use Rattle.demands.specs.Lending.{columnNeeded, momentsNeeded, memory, lent};
 ghost use Rattle.exports.specs.Exported.{Exported, Printed};
 
 // How many numbers and how many diffs result memory has.
@@ -45,6 +47,26 @@ pub extern "C" fn daniskol_column_size() -> usize
     ensures { λ r. ⌜ r ≡ 8192 ⌝ }
 {
     COLUMN_SIZE
+}
+
+// How long they must be for one call: of its width, how many records the old run has, the keys of the new run and those of the pending list.
+#[no_mangle]
+pub extern "C" fn daniskol_moments_needed(
+    width: u64,
+    old: usize,
+    newkeys: &[u64],
+    pendingkeys: &[u64],
+) -> usize
+    ensures { λ r. ⌜ r ≡ momentsNeeded width old (now (newkeys .entry)) (now (pendingkeys .entry)) ⌝ }
+{
+    moments_needed(width, old, newkeys, pendingkeys)
+}
+
+#[no_mangle]
+pub extern "C" fn daniskol_column_needed(old: usize, new: usize) -> usize
+    ensures { λ r. ⌜ r ≡ columnNeeded old new ⌝ }
+{
+    column_needed(old, new)
 }
 
 // The call. Returns its status, and writes status, crossings, and how many tiles, corrections, pending entries and frontier times there are to the

@@ -24,7 +24,7 @@ use Rattle.grid.proofs.Ascending.{ascending-above, ascending-rest}
 use Rattle.grid.proofs.Slices.{laid-front}
 use Rattle.rules.specs.Discover.{State, discover}
 use Rattle.rules.specs.Call.{Request, work, pendedAll}
-use Rattle.backends.specs.Crossing.{part, segments, ends, whole}
+use Rattle.backends.specs.Segments.{part, segments, ends, whole}
 use Rattle.keys.specs.Spans.{Reaches, Spans, Within, Level}
 use Rattle.keys.specs.declared.Span.{Span}
 use Rattle.keys.proofs.Spans.{spans-within, reaches-on, pending-part, edits-part}
@@ -132,7 +132,7 @@ segments-row k (s ∷ ss) l rest e =
     let others = segments-row (k + length s) ss l rest (sym (drop-drop (length s) k l) ∙ ap (drop (length s)) here ∙ drop-append-seam s (whole ss ++ rest)) in
     λ i. first i ∷ others i
 
-pub window-moments : {keys : List ℕ} {Ds : List State} {p : Tally} {mends nextkeys nexttimes moments′ mends′ nextkeys′ nexttimes′ : List ℕ} {r : Tally} → FindsWindow keys Ds p mends nextkeys nexttimes moments′ mends′ nextkeys′ nexttimes′ r
+pub window-moments : {most : ℕ} {keys : List ℕ} {Ds : List State} {p : Tally} {mends nextkeys nexttimes moments′ mends′ nextkeys′ nexttimes′ : List ℕ} {r : Tally} → FindsWindow most keys Ds p mends nextkeys nexttimes moments′ mends′ nextkeys′ nexttimes′ r
     → length keys ≤ length mends → r .over ≡ false → segments 0 (take (length keys) mends′) moments′ ≡ momentsOf Ds
 window-moments {Ds = Ds} {moments′ = moments′} {r = r} F room o =
     let f = laid-front (F .ends-are o) (omega (arith, F .ends-are o .counted)) in

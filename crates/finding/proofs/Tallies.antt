@@ -14,7 +14,6 @@ use mir.Val.{Fits}
 use lib.ListN.{length, take}
 use lib.Seq.{length-take-le, take-append-add, take-append-le}
 use borrow.Rule.Slice.PartMut.{midOf, postOf, putMid, mid-len}
-use Rattle.grid.specs.Records.{mostRecords}
 use Rattle.grid.proofs.Tests.{by-test, or-false-l, or-false-r}
 use Rattle.rules.specs.Discover.{mostMoments, State, discover}
 use Rattle.edits.specs.Edits.{edits}
@@ -28,20 +27,20 @@ use Rattle.tallies.proofs.Counting.{count-few}
 use Rattle.finding.specs.Tallies.{Scratch, LentTally, LentSlot, Extends, slotOver, FindsSlot}
 
 -- ---- what discover_key asks
-module _ {moments nextkeys nexttimes : List ℕ} {p : Tally} (t : LentTally moments nextkeys nexttimes p) where
+module _ {most : ℕ} {moments nextkeys nexttimes : List ℕ} {p : Tally} (t : LentTally most moments nextkeys nexttimes p) where
   pub moments-fit : Fits w64 (p .moments * 8)
   moments-fit = omega (arith, t .moments-few)
 
   pub moments-inside : p .moments ≤ length moments
   moments-inside = omega (arith, t .moments-room)
 
-module _ {seedtimes pending intimes invalues : List ℕ} {indiffs : List ℤ} {outtimes moments nextkeys nexttimes : List ℕ} {p : Tally}
-    (l : LentSlot seedtimes pending intimes invalues indiffs outtimes moments nextkeys nexttimes p) where
+module _ {most : ℕ} {seedtimes pending intimes invalues : List ℕ} {indiffs : List ℤ} {outtimes moments nextkeys nexttimes : List ℕ} {p : Tally}
+    (l : LentSlot most seedtimes pending intimes invalues indiffs outtimes moments nextkeys nexttimes p) where
   room-left : suc mostMoments ≤ length (midOf (p .moments) (length moments - p .moments) moments)
   room-left = omega (arith, l .goes-on .moments-room, mid-len (p .moments) (length moments) moments (omega arith))
 
   pub lending : {seeds times values : List ℕ} {diffs : List ℤ} {output meets waiting tracked pended work places wvalues : List ℕ} {wdiffs : List ℤ}
-      → Scratch seeds times values diffs output meets waiting tracked pended work places wvalues wdiffs
+      → Scratch most seeds times values diffs output meets waiting tracked pended work places wvalues wdiffs
       → Lending seedtimes pending intimes invalues indiffs outtimes seeds times values diffs output meets waiting tracked (midOf (p .moments) (length moments - p .moments) moments) pended work places wvalues wdiffs
   lending s =
       record {
@@ -78,23 +77,23 @@ pended-within {r = r} {c = c} f few l e =
     (λ t. let z : c ≡ r .pended = rw t at e in omega (arith, few t .1))
 
 -- ---- what one key's discovery leaves
-module _ {D : State} {k : ℕ} {p : Tally} (moments : List ℕ) {ms pended nextkeys nexttimes nextkeys′ nexttimes′ : List ℕ} {r : Found} {c n : ℕ} {q : Tally}
+module _ {most : ℕ} {D : State} {k : ℕ} {p : Tally} (moments : List ℕ) {ms pended nextkeys nexttimes nextkeys′ nexttimes′ : List ℕ} {r : Found} {c n : ℕ} {q : Tally}
     (F : Finds D ms pended r) (few : r .over ≡ false → (r .moments ≤ mostMoments) × (r .pended ≤ mostMoments))
     (long : suc mostMoments ≤ length ms) (within : p .moments ≤ length moments) (c-is : c ≡ pendedCount r)
-    (A : Appends k (p .pended) (take c pended) nextkeys nexttimes nextkeys′ nexttimes′ n) (T : Tallied p r n q) (next : p .pended ≤ mostRecords) where
+    (A : Appends most k (p .pended) (take c pended) nextkeys nexttimes nextkeys′ nexttimes′ n) (T : Tallied most p r n q) (next : p .pended ≤ most) where
   added : r .over ≡ false → take c pended ≡ D .pended
   added e = ap (λ i. take i pended) (c-is ∙ sym (count-few r e)) ∙ F .pended-are e
 
-  over-slot : q .over ≡ slotOver (p .over) (p .pended) D
+  over-slot : q .over ≡ slotOver most (p .over) (p .pended) D
   unfolding slotOver
   over-slot =
       T .over-is
       ∙ by-test (r .over)
       (λ e. let d : D .over ≡ true = sym (F .over-is) ∙ e in rw (e, d))
-      (λ e. let d : D .over ≡ false = sym (F .over-is) ∙ e in rw (e, d) (ap (λ i. p .over || ltb mostRecords i) (A .counted ∙ ap (λ l. p .pended + length l) (added e))))
+      (λ e. let d : D .over ≡ false = sym (F .over-is) ∙ e in rw (e, d) (ap (λ i. p .over || ltb most i) (A .counted ∙ ap (λ l. p .pended + length l) (added e))))
 
   found : q .over ≡ false → r .over ≡ false
-  found o = or-false-l (r .over) (ltb mostRecords n) (or-false-r (p .over) _ (sym (T .over-is) ∙ o))
+  found o = or-false-l (r .over) (ltb most n) (or-false-r (p .over) _ (sym (T .over-is) ∙ o))
 
   moments-long : q .over ≡ false → r .moments ≡ length (D .moments)
   moments-long o = sym (length-take-le (r .moments) ms (omega (arith, few (found o) .0))) ∙ ap length (F .moments-are (found o))
@@ -111,7 +110,7 @@ module _ {D : State} {k : ℕ} {p : Tally} (moments : List ℕ) {ms pended nextk
             ∙ ap (λ l. take (p .moments) moments ++ l) (take-append-le (r .moments) ms rest (omega (arith, few (found o) .0)) ∙ F .moments-are (found o));
       }
 
-  slot-found : FindsSlot D k p moments nextkeys nexttimes (putMid (p .moments) (length moments - p .moments) moments ms) nextkeys′ nexttimes′ q
+  slot-found : FindsSlot most D k p moments nextkeys nexttimes (putMid (p .moments) (length moments - p .moments) moments ms) nextkeys′ nexttimes′ q
   slot-found =
       record {
         over-is = over-slot;
@@ -122,10 +121,10 @@ module _ {D : State} {k : ℕ} {p : Tally} (moments : List ℕ) {ms pended nextk
         times-are = λ o. let w = T .pended-are o in rw (← added (found o), w .0) (A .times-are (w .1));
       }
 
-module _ (upper : List ℕ) {seedtimes pending intimes invalues : List ℕ} {indiffs : List ℤ} {outtimes moments nextkeys nexttimes : List ℕ} {p : Tally}
-    (l : LentSlot seedtimes pending intimes invalues indiffs outtimes moments nextkeys nexttimes p)
+module _ (upper : List ℕ) {most : ℕ} {seedtimes pending intimes invalues : List ℕ} {indiffs : List ℤ} {outtimes moments nextkeys nexttimes : List ℕ} {p : Tally}
+    (l : LentSlot most seedtimes pending intimes invalues indiffs outtimes moments nextkeys nexttimes p)
     {seeds times values : List ℕ} {diffs : List ℤ} {output meets waiting tracked pended work places wvalues : List ℕ} {wdiffs : List ℤ}
-    (s : Scratch seeds times values diffs output meets waiting tracked pended work places wvalues wdiffs)
+    (s : Scratch most seeds times values diffs output meets waiting tracked pended work places wvalues wdiffs)
     {ms pended′ : List ℕ} {r : Found} (F : Finds (discover upper seedtimes pending (edits intimes invalues indiffs) outtimes) ms pended′ r)
     (same-ms : length ms ≡ length (midOf (p .moments) (length moments - p .moments) moments)) (same-pended : length pended′ ≡ length pended) where
   long-ms : suc mostMoments ≤ length ms
@@ -143,6 +142,7 @@ module _ (upper : List ℕ) {seedtimes pending intimes invalues : List ℕ} {ind
   pub slot-counts : Counts p r
   slot-counts = counts F (l .goes-on .moments-few) few
 
-  pub finds-slot : {k c n : ℕ} {nextkeys′ nexttimes′ : List ℕ} {q : Tally} → c ≡ pendedCount r → Appends k (p .pended) (take (c - 0) pended′) nextkeys nexttimes nextkeys′ nexttimes′ n → Tallied p r n q
-      → FindsSlot (discover upper seedtimes pending (edits intimes invalues indiffs) outtimes) k p moments nextkeys nexttimes (putMid (p .moments) (length moments - p .moments) moments ms) nextkeys′ nexttimes′ q
-  finds-slot {c = c} e A T = slot-found moments F few long-ms (moments-inside (l .goes-on)) e (rw (sub-zero c) at A) T (l .goes-on .next-room .within)
+  pub finds-slot : {k c n : ℕ} {nextkeys′ nexttimes′ : List ℕ} {q : Tally} → c ≡ pendedCount r → Appends most k (p .pended) (take (c - 0) pended′) nextkeys nexttimes nextkeys′ nexttimes′ n → length nextkeys′ ≡ length nextkeys → Tallied (length nextkeys′) p r n q
+      → FindsSlot most (discover upper seedtimes pending (edits intimes invalues indiffs) outtimes) k p moments nextkeys nexttimes (putMid (p .moments) (length moments - p .moments) moments ms) nextkeys′ nexttimes′ q
+  finds-slot {c = c} e A same T =
+      slot-found moments F few long-ms (moments-inside (l .goes-on)) e (rw (sub-zero c) at A) (rw (same ∙ l .goes-on .next-room .keys-room) at T) (l .goes-on .next-room .within)

@@ -1,8 +1,8 @@
 -- The discovery of a window.
 --
 -- values-within, diffs-within: the input's part lies within its other columns. slot-lent: what one key's discovery asks of the parts. slot-window: what it leaves
--- parted-room, spans-lent: the columns of parts have one for each key, and it lies within its run. found-next, found-none: what is found from them, key by key
--- SameLong: memory keeps its lengths. same-start, same-more: the loop keeps that. scratch-still: so it still serves any key
+-- parted-room, spans-lent: the columns of parts have one for each key, and it lies within its run. found-next, found-none: what is found from their fronts, key by key
+-- SameLong: memory keeps its lengths. same-start, same-more: the loop keeps that. scratch-still, runs-still: so it still serves any key of the runs
 -- over-append: limits, window after window
 -- Windowing: what the loop over the slots keeps. windowing-start, windowing-more, windowing-end: it does. windowing-room: there is room for one more key
 -- eight-fit, next-fits, less-left, mends-here: the numbers of the loop
@@ -16,10 +16,10 @@ use lib.Dec.{ltb}
 use mir.Syntax.{w64}
 use mir.Val.{Fits}
 use lib.IntN.{ℤ}
-use lib.ListN.{length, take, drop, getD, set, replicate, length-append}
+use lib.ListN.{length, take, drop, getD, set, replicate, length-append, length-take}
+use lib.Seq.{getD-take}
 use borrow.Author.Tests.{ltb-true, lt-ltb, le-ltb}
 use Rattle.grid.specs.Lists.{any, flat}
-use Rattle.grid.specs.Records.{mostRecords}
 use Rattle.grid.proofs.Tests.{by-test, or-false-l}
 use Rattle.grid.proofs.Lists.{head}
 use Rattle.grid.proofs.Loops.{drop-more}
@@ -28,7 +28,7 @@ use Rattle.grid.proofs.Operations.{flat-append, any-append}
 use Rattle.rules.specs.Discover.{mostMoments, State, discover}
 use Rattle.consolidation.specs.Entries.{mass}
 use Rattle.edits.specs.Edits.{edits}
-use Rattle.backends.specs.Crossing.{part, ends, whole}
+use Rattle.backends.specs.Segments.{part, ends, whole}
 use Rattle.backends.proofs.Columns.{all-drop, Writing, writing-start, writing-append, writing-end}
 use Rattle.backends.proofs.Segments.{part-length, ends-next}
 use Rattle.keys.specs.Spans.{Within}
@@ -57,7 +57,7 @@ mass-part a b ds = omega (arith, mass-take (b - a) (drop a ds), mass-drop a ds)
 part-few : {A : Type 0} {most : ℕ} (s : Span) (l : List A) → Within (length l) s → length l ≤ most → length (part (s .from) (s .to) l) ≤ most
 part-few s l w h = omega (arith, part-length (s .from) (s .to) l (w .ordered) (w .inside), w .ordered, w .inside)
 
-module _ {newtimes pendingtimes intimes invalues : List ℕ} {indiffs : List ℤ} {outtimes : List ℕ} (L : LentRuns newtimes pendingtimes intimes invalues indiffs outtimes)
+module _ {most : ℕ} {newtimes pendingtimes intimes invalues : List ℕ} {indiffs : List ℤ} {outtimes : List ℕ} (L : LentRuns most newtimes pendingtimes intimes invalues indiffs outtimes)
     {n p i o : Span} (S : LentSpans (length newtimes) n (length pendingtimes) p (length intimes) i (length outtimes) o) where
   pub values-within : Within (length invalues) i
   values-within = rw (L .input-alike .values) (S .input-within)
@@ -67,7 +67,7 @@ module _ {newtimes pendingtimes intimes invalues : List ℕ} {indiffs : List ℤ
 
   module _ {seedtimes pending times values : List ℕ} {diffs : List ℤ} {out : List ℕ} (en : seedtimes ≡ part (n .from) (n .to) newtimes) (ep : pending ≡ part (p .from) (p .to) pendingtimes)
       (et : times ≡ part (i .from) (i .to) intimes) (ev : values ≡ part (i .from) (i .to) invalues) (ed : diffs ≡ part (i .from) (i .to) indiffs) (eo : out ≡ part (o .from) (o .to) outtimes) where
-    pub slot-lent : {moments nextkeys nexttimes : List ℕ} {q : Tally} → LentTally moments nextkeys nexttimes q → LentSlot seedtimes pending times values diffs out moments nextkeys nexttimes q
+    pub slot-lent : {moments nextkeys nexttimes : List ℕ} {q : Tally} → LentTally most moments nextkeys nexttimes q → LentSlot most seedtimes pending times values diffs out moments nextkeys nexttimes q
     slot-lent t =
         let lt = part-length (i .from) (i .to) intimes (S .input-within .ordered) (S .input-within .inside) in
         let lv = part-length (i .from) (i .to) invalues (values-within .ordered) (values-within .inside) in
@@ -81,8 +81,8 @@ module _ {newtimes pendingtimes intimes invalues : List ℕ} {indiffs : List ℤ
           goes-on = t;
         })
 
-    pub slot-window : (upper : List ℕ) {k : ℕ} {q r : Tally} {moments nextkeys nexttimes moments′ nextkeys′ nexttimes′ : List ℕ} → FindsSlot (discover upper seedtimes pending (edits times values diffs) out) k q moments nextkeys nexttimes moments′ nextkeys′ nexttimes′ r
-        → FindsSlot (stateAt upper newtimes pendingtimes intimes invalues indiffs outtimes n p i o) k q moments nextkeys nexttimes moments′ nextkeys′ nexttimes′ r
+    pub slot-window : (upper : List ℕ) {k : ℕ} {q r : Tally} {moments nextkeys nexttimes moments′ nextkeys′ nexttimes′ : List ℕ} → FindsSlot most (discover upper seedtimes pending (edits times values diffs) out) k q moments nextkeys nexttimes moments′ nextkeys′ nexttimes′ r
+        → FindsSlot most (stateAt upper newtimes pendingtimes intimes invalues indiffs outtimes n p i o) k q moments nextkeys nexttimes moments′ nextkeys′ nexttimes′ r
     unfolding stateAt
     slot-window upper f = rw (en, ep, et, ev, ed, eo) at f
 
@@ -140,36 +140,43 @@ module _ (f : Span → Span → Span → Span → State) where
   fourfold-next b {n} {p} {i} {o} ns ps is os en ep ei eo =
       fourfold-drop b ns ps is os ∙ (λ z. fourfold f (en z) (ep z) (ei z) (eo z)) ∙ ap (λ l. f n p i o ∷ l) (sym (fourfold-drop (b + 1) ns ps is os))
 
--- ---- where the loop stands in the lists of parts
-module _ {n long : ℕ} {from to : List ℕ} {b : ℕ} (P : Parted n long from to) (h : b < n) where
+-- ---- where the loop stands in the fronts of the columns
+module _ {n long : ℕ} (from to : List ℕ) {b : ℕ} (P : Parted n long (take n from) (take n to)) (h : b < n) where
   pub parted-room : (b < length from) × (b < length to)
-  parted-room = (omega (arith, P .from-long), omega (arith, P .to-long))
+  parted-room = (omega (arith, P .from-long, length-take n from), omega (arith, P .to-long, length-take n to))
 
-  parted-next : {s : Span} → s ≡ spanIn from to b → drop b (spansIn from to) ≡ s ∷ drop (b + 1) (spansIn from to)
-  parted-next e = spans-next from to b (parted-room .0) (parted-room .1) ∙ ap (λ s. s ∷ drop (b + 1) (spansIn from to)) (sym e)
+  front-span : spanIn (take n from) (take n to) b ≡ spanIn from to b
+  front-span = λ z. record { from = getD-take n from b 0 h z; to = getD-take n to b 0 h z }
+
+  parted-next : {s : Span} → s ≡ spanIn from to b → drop b (spansIn (take n from) (take n to)) ≡ s ∷ drop (b + 1) (spansIn (take n from) (take n to))
+  parted-next e =
+      spans-next (take n from) (take n to) b (omega (arith, P .from-long)) (omega (arith, P .to-long))
+      ∙ ap (λ s. s ∷ drop (b + 1) (spansIn (take n from) (take n to))) (front-span ∙ sym e)
 
   parted-within : {s : Span} → s ≡ spanIn from to b → Within long s
   parted-within e = head (rw (parted-next e) at (all-drop b (P .inside)))
 
-module _ {k new pending input out : ℕ} {nfrom nto pfrom pto ifrom ito ofrom oto : List ℕ} {b : ℕ} (P : Parted k new nfrom nto × (Parted k pending pfrom pto × (Parted k input ifrom ito × Parted k out ofrom oto))) where
-  module _ (h : b < k) {n p i o : Span} (en : n ≡ spanIn nfrom nto b) (ep : p ≡ spanIn pfrom pto b) (ei : i ≡ spanIn ifrom ito b) (eo : o ≡ spanIn ofrom oto b) where
-    pub spans-lent : LentSpans new n pending p input i out o
-    spans-lent =
-        record {
-          new-within = parted-within (P .0) h en;
-          pending-within = parted-within (P .1 .0) h ep;
-          input-within = parted-within (P .1 .1 .0) h ei;
-          out-within = parted-within (P .1 .1 .1) h eo;
-        }
+module _ {k new pending input out : ℕ} (nfrom nto pfrom pto ifrom ito ofrom oto : List ℕ) {b : ℕ}
+    (P : Parted k new (take k nfrom) (take k nto) × (Parted k pending (take k pfrom) (take k pto) × (Parted k input (take k ifrom) (take k ito) × Parted k out (take k ofrom) (take k oto)))) (h : b < k)
+    {n p i o : Span} (en : n ≡ spanIn nfrom nto b) (ep : p ≡ spanIn pfrom pto b) (ei : i ≡ spanIn ifrom ito b) (eo : o ≡ spanIn ofrom oto b) where
+  pub spans-lent : LentSpans new n pending p input i out o
+  spans-lent =
+      record {
+        new-within = parted-within nfrom nto (P .0) h en;
+        pending-within = parted-within pfrom pto (P .1 .0) h ep;
+        input-within = parted-within ifrom ito (P .1 .1 .0) h ei;
+        out-within = parted-within ofrom oto (P .1 .1 .1) h eo;
+      }
 
-    pub found-next : (f : Span → Span → Span → Span → State) → drop b (fourfold f (spansIn nfrom nto) (spansIn pfrom pto) (spansIn ifrom ito) (spansIn ofrom oto)) ≡ f n p i o ∷ drop (b + 1) (fourfold f (spansIn nfrom nto) (spansIn pfrom pto) (spansIn ifrom ito) (spansIn ofrom oto))
-    found-next f =
-        fourfold-next f b (spansIn nfrom nto) (spansIn pfrom pto) (spansIn ifrom ito) (spansIn ofrom oto)
-        (parted-next (P .0) h en) (parted-next (P .1 .0) h ep) (parted-next (P .1 .1 .0) h ei) (parted-next (P .1 .1 .1) h eo)
+  pub found-next : (f : Span → Span → Span → Span → State)
+      → drop b (fourfold f (spansIn (take k nfrom) (take k nto)) (spansIn (take k pfrom) (take k pto)) (spansIn (take k ifrom) (take k ito)) (spansIn (take k ofrom) (take k oto)))
+      ≡ f n p i o ∷ drop (b + 1) (fourfold f (spansIn (take k nfrom) (take k nto)) (spansIn (take k pfrom) (take k pto)) (spansIn (take k ifrom) (take k ito)) (spansIn (take k ofrom) (take k oto)))
+  found-next f =
+      fourfold-next f b (spansIn (take k nfrom) (take k nto)) (spansIn (take k pfrom) (take k pto)) (spansIn (take k ifrom) (take k ito)) (spansIn (take k ofrom) (take k oto))
+      (parted-next nfrom nto (P .0) h en) (parted-next pfrom pto (P .1 .0) h ep) (parted-next ifrom ito (P .1 .1 .0) h ei) (parted-next ofrom oto (P .1 .1 .1) h eo)
 
-  pub found-none : k ≤ b → (f : Span → Span → Span → Span → State) → drop b (fourfold f (spansIn nfrom nto) (spansIn pfrom pto) (spansIn ifrom ito) (spansIn ofrom oto)) ≡ []
-  found-none h f =
-      fourfold-none f b (spansIn nfrom nto) (spansIn pfrom pto) (spansIn ifrom ito) (spansIn ofrom oto) (spans-none nfrom nto b (omega (arith, P .0 .from-long)))
+pub found-none : {k new : ℕ} {nfrom nto : List ℕ} {b : ℕ} → Parted k new nfrom nto → k ≤ b → (f : Span → Span → Span → Span → State) (ps is os : List Span) → drop b (fourfold f (spansIn nfrom nto) ps is os) ≡ []
+found-none {nfrom = nfrom} {nto} {b} P h f ps is os = fourfold-none f b (spansIn nfrom nto) ps is os (spans-none nfrom nto b (omega (arith, P .from-long)))
 
 -- ---- memory of the loop keeps its lengths
 pub record SameLong (seeds₀ times₀ values₀ : List ℕ) (diffs₀ : List ℤ) (output₀ meets₀ waiting₀ tracked₀ moments₀ pended₀ work₀ places₀ wvalues₀ : List ℕ) (wdiffs₀ : List ℤ) (nextkeys₀ nexttimes₀ mends₀ : List ℕ) (seeds times values : List ℕ) (diffs : List ℤ) (output meets waiting tracked moments pended work places wvalues : List ℕ) (wdiffs : List ℤ) (nextkeys nexttimes mends : List ℕ) : Type 0 where
@@ -195,23 +202,26 @@ pub same-start : {seeds times values : List ℕ} {diffs : List ℤ} {output meet
 same-start = record { of-seeds = refl; of-times = refl; of-values = refl; of-diffs = refl; of-output = refl; of-meets = refl; of-waiting = refl; of-tracked = refl; of-moments = refl; of-pended = refl; of-work = refl; of-places = refl; of-wvalues = refl; of-wdiffs = refl; of-nextkeys = refl; of-nexttimes = refl; of-mends = refl }
 
 module _ {seeds₀ times₀ values₀ : List ℕ} {diffs₀ : List ℤ} {output₀ meets₀ waiting₀ tracked₀ moments₀ pended₀ work₀ places₀ wvalues₀ : List ℕ} {wdiffs₀ : List ℤ} {nextkeys₀ nexttimes₀ mends₀ : List ℕ} {seeds times values : List ℕ} {diffs : List ℤ} {output meets waiting tracked moments pended work places wvalues : List ℕ} {wdiffs : List ℤ} {nextkeys nexttimes mends : List ℕ} (S : SameLong seeds₀ times₀ values₀ diffs₀ output₀ meets₀ waiting₀ tracked₀ moments₀ pended₀ work₀ places₀ wvalues₀ wdiffs₀ nextkeys₀ nexttimes₀ mends₀ seeds times values diffs output meets waiting tracked moments pended work places wvalues wdiffs nextkeys nexttimes mends) where
-  pub scratch-still : Scratch seeds₀ times₀ values₀ diffs₀ output₀ meets₀ waiting₀ tracked₀ pended₀ work₀ places₀ wvalues₀ wdiffs₀ → Scratch seeds times values diffs output meets waiting tracked pended work places wvalues wdiffs
+  pub scratch-still : Scratch (length nextkeys₀) seeds₀ times₀ values₀ diffs₀ output₀ meets₀ waiting₀ tracked₀ pended₀ work₀ places₀ wvalues₀ wdiffs₀ → Scratch (length nextkeys) seeds times values diffs output meets waiting tracked pended work places wvalues wdiffs
   scratch-still c =
       record {
-        seeds-room = rw (S .of-seeds) (c .seeds-room);
+        seeds-room = rw (S .of-nextkeys, S .of-seeds) (c .seeds-room);
         input-alike = record { values = S .of-values ∙ c .input-alike .values ∙ sym (S .of-times); diffs = S .of-diffs ∙ c .input-alike .diffs ∙ sym (S .of-times) };
-        input-room = rw (S .of-times) (c .input-room);
-        output-room = rw (S .of-output) (c .output-room);
-        meets-room = rw (S .of-meets) (c .meets-room);
+        input-room = rw (S .of-nextkeys, S .of-times) (c .input-room);
+        output-room = rw (S .of-nextkeys, S .of-output) (c .output-room);
+        meets-room = rw (S .of-nextkeys, S .of-meets) (c .meets-room);
         waiting-room = rw (S .of-waiting) (c .waiting-room);
-        tracked-room = rw (S .of-tracked) (c .tracked-room);
+        tracked-room = rw (S .of-nextkeys, S .of-tracked) (c .tracked-room);
         pended-room = rw (S .of-pended) (c .pended-room);
-        work-room = rw (S .of-work) (c .work-room);
+        work-room = rw (S .of-nextkeys, S .of-work) (c .work-room);
         for-tracked = rw (S .of-tracked, S .of-work) (c .for-tracked);
-        places-room = rw (S .of-places) (c .places-room);
-        wvalues-room = rw (S .of-wvalues) (c .wvalues-room);
-        wdiffs-room = rw (S .of-wdiffs) (c .wdiffs-room);
+        places-room = rw (S .of-nextkeys, S .of-places) (c .places-room);
+        wvalues-room = rw (S .of-nextkeys, S .of-wvalues) (c .wvalues-room);
+        wdiffs-room = rw (S .of-nextkeys, S .of-wdiffs) (c .wdiffs-room);
       }
+
+  pub runs-still : {newtimes pendingtimes intimes invalues : List ℕ} {indiffs : List ℤ} {outtimes : List ℕ} → LentRuns (length nextkeys₀) newtimes pendingtimes intimes invalues indiffs outtimes → LentRuns (length nextkeys) newtimes pendingtimes intimes invalues indiffs outtimes
+  runs-still L = rw (S .of-nextkeys) L
 
   pub same-more : {seeds′ times′ values′ : List ℕ} {diffs′ : List ℤ} {output′ meets′ waiting′ tracked′ moments′ pended′ work′ places′ wvalues′ : List ℕ} {wdiffs′ : List ℤ} {nextkeys′ nexttimes′ mends′ : List ℕ} → length seeds′ ≡ length seeds → length times′ ≡ length times → length values′ ≡ length values → length diffs′ ≡ length diffs → length output′ ≡ length output → length meets′ ≡ length meets → length waiting′ ≡ length waiting → length tracked′ ≡ length tracked → length moments′ ≡ length moments → length pended′ ≡ length pended → length work′ ≡ length work → length places′ ≡ length places → length wvalues′ ≡ length wvalues → length wdiffs′ ≡ length wdiffs → length nextkeys′ ≡ length nextkeys → length nexttimes′ ≡ length nexttimes → length mends′ ≡ length mends → SameLong seeds₀ times₀ values₀ diffs₀ output₀ meets₀ waiting₀ tracked₀ moments₀ pended₀ work₀ places₀ wvalues₀ wdiffs₀ nextkeys₀ nexttimes₀ mends₀ seeds′ times′ values′ diffs′ output′ meets′ waiting′ tracked′ moments′ pended′ work′ places′ wvalues′ wdiffs′ nextkeys′ nexttimes′ mends′
   same-more e0 e1 e2 e3 e4 e5 e6 e7 e8 e9 e10 e11 e12 e13 e14 e15 e16 =
@@ -228,31 +238,31 @@ pendedOf D = D .pended
 abbrev overOf : State → Bool
 overOf D = D .over
 
-pub over-append : (over : Bool) (n n′ : ℕ) (Ds Es : List State) → (windowOver over n Ds ≡ false → n′ ≡ n + length (flat (λ (D : State). D .pended) Ds)) → windowOver (windowOver over n Ds) n′ Es ≡ windowOver over n (Ds ++ Es)
+pub over-append : (most : ℕ) (over : Bool) (n n′ : ℕ) (Ds Es : List State) → (windowOver most over n Ds ≡ false → n′ ≡ n + length (flat (λ (D : State). D .pended) Ds)) → windowOver most (windowOver most over n Ds) n′ Es ≡ windowOver most over n (Ds ++ Es)
 unfolding windowOver
-over-append over n n′ Ds Es g =
+over-append most over n n′ Ds Es g =
     let l = ap length (flat-append pendedOf Ds Es) ∙ length-append (flat pendedOf Ds) (flat pendedOf Es) in
     by-test over (λ o. rw o)
     (λ o. by-test (any overOf Ds)
     (λ d. rw (any-append overOf Ds Es, o, d))
-    (λ d. by-test (ltb mostRecords (n + length (flat pendedOf Ds)))
-    (λ m. rw (any-append overOf Ds Es, o, d, m, lt-ltb mostRecords (n + length (flat pendedOf (Ds ++ Es))) (omega (arith, l, ltb-true mostRecords (n + length (flat pendedOf Ds)) m))) (sym (or-true (any overOf Es))))
+    (λ d. by-test (ltb most (n + length (flat pendedOf Ds)))
+    (λ m. rw (any-append overOf Ds Es, o, d, m, lt-ltb most (n + length (flat pendedOf (Ds ++ Es))) (omega (arith, l, ltb-true most (n + length (flat pendedOf Ds)) m))) (sym (or-true (any overOf Es))))
     (λ m. let q : n′ + length (flat pendedOf Es) ≡ n + length (flat pendedOf (Ds ++ Es)) = omega (arith, l, g (rw (o, d, m))) in
     rw (any-append overOf Ds Es, o, d, m, q))))
 
 -- one key
-over-one : (over : Bool) (n : ℕ) (D : State) → slotOver over n D ≡ windowOver over n (D ∷ [])
+over-one : (most : ℕ) (over : Bool) (n : ℕ) (D : State) → slotOver most over n D ≡ windowOver most over n (D ∷ [])
 unfolding slotOver windowOver
-over-one over n D = rw (append-nil (D .pended)) (by-test (D .over) (λ e. rw e) (λ e. rw e))
+over-one most over n D = rw (append-nil (D .pended)) (by-test (D .over) (λ e. rw e) (λ e. rw e))
 
-over-step : (over : Bool) (n : ℕ) (D : State) (Ds : List State) {over′ : Bool} {n′ : ℕ} → over′ ≡ slotOver over n D → (over′ ≡ false → n′ ≡ n + length (D .pended)) → windowOver over′ n′ Ds ≡ windowOver over n (D ∷ Ds)
-over-step over n D Ds {over′} {n′} e g =
-    let q = e ∙ over-one over n D in
-    ap (λ o. windowOver o n′ Ds) q ∙ over-append over n n′ (D ∷ []) Ds (λ z. g (q ∙ z) ∙ ap (λ l. n + length l) (sym (append-nil (D .pended))))
+over-step : (most : ℕ) (over : Bool) (n : ℕ) (D : State) (Ds : List State) {over′ : Bool} {n′ : ℕ} → over′ ≡ slotOver most over n D → (over′ ≡ false → n′ ≡ n + length (D .pended)) → windowOver most over′ n′ Ds ≡ windowOver most over n (D ∷ Ds)
+over-step most over n D Ds {over′} {n′} e g =
+    let q = e ∙ over-one most over n D in
+    ap (λ o. windowOver most o n′ Ds) q ∙ over-append most over n n′ (D ∷ []) Ds (λ z. g (q ∙ z) ∙ ap (λ l. n + length l) (sym (append-nil (D .pended))))
 
-over-none : (over : Bool) (n : ℕ) → n ≤ mostRecords → windowOver over n [] ≡ over
+over-none : (most : ℕ) (over : Bool) (n : ℕ) → n ≤ most → windowOver most over n [] ≡ over
 unfolding windowOver
-over-none over n h = rw (le-ltb mostRecords (n + 0) (omega arith)) (or-none over)
+over-none most over n h = rw (le-ltb most (n + 0) (omega arith)) (or-none over)
   where
     or-none : (a : Bool) → (a || (false || false)) ≡ a
     or-none true = refl
@@ -288,20 +298,20 @@ unfolding ends
 ends-none m = refl
 
 -- ---- the loop over the slots
-pub record Windowing (keys : List ℕ) (Ds : List State) (p : Tally) (mends₀ nextkeys₀ nexttimes₀ moments mends nextkeys nexttimes : List ℕ) (b : ℕ) (w : Tally) : Type 0 where
+pub record Windowing (most : ℕ) (keys : List ℕ) (Ds : List State) (p : Tally) (mends₀ nextkeys₀ nexttimes₀ moments mends nextkeys nexttimes : List ℕ) (b : ℕ) (w : Tally) : Type 0 where
   pub within : b ≤ length keys
   pub moments-few : w .moments ≤ b * mostMoments
-  pub next-few : w .pended ≤ mostRecords
-  pub over-is : windowOver (w .over) (w .pended) (drop b Ds) ≡ windowOver (p .over) (p .pended) Ds
+  pub next-few : w .pended ≤ most
+  pub over-is : windowOver most (w .over) (w .pended) (drop b Ds) ≡ windowOver most (p .over) (p .pended) Ds
   pub row-long : w .over ≡ false → w .moments + length (whole (momentsOf (drop b Ds))) ≡ length (whole (momentsOf Ds))
   pub row-is : w .over ≡ false → take (w .moments) moments ++ whole (momentsOf (drop b Ds)) ≡ whole (momentsOf Ds)
   pub ends-are : w .over ≡ false → Laying mends₀ mends b (ends (w .moments) (momentsOf (drop b Ds))) (ends 0 (momentsOf Ds))
   pub next-keys : w .over ≡ false → Writing nextkeys₀ (p .pended) (firstsOf (pendedRow keys Ds)) nextkeys (w .pended) (firstsOf (pendedRow (drop b keys) (drop b Ds)))
   pub next-times : w .over ≡ false → Writing nexttimes₀ (p .pended) (secondsOf (pendedRow keys Ds)) nexttimes (w .pended) (secondsOf (pendedRow (drop b keys) (drop b Ds)))
 
-pub windowing-start : {keys : List ℕ} (Ds : List State) {moments mends nextkeys nexttimes : List ℕ} {p : Tally} → LentWindow keys moments mends nextkeys nexttimes p
-    → Windowing keys Ds p mends nextkeys nexttimes moments mends nextkeys nexttimes 0 p
-windowing-start {keys} Ds {moments} {mends} {nextkeys} {nexttimes} {p} l =
+pub windowing-start : {most : ℕ} {keys : List ℕ} (Ds : List State) {moments mends nextkeys nexttimes : List ℕ} {p : Tally} → LentWindow most keys moments mends nextkeys nexttimes p
+    → Windowing most keys Ds p mends nextkeys nexttimes moments mends nextkeys nexttimes 0 p
+windowing-start {keys = keys} Ds {moments} {mends} {nextkeys} {nexttimes} {p} l =
     record {
       within = omega arith;
       moments-few = omega (arith, l .none-yet);
@@ -314,26 +324,34 @@ windowing-start {keys} Ds {moments} {mends} {nextkeys} {nexttimes} {p} l =
       next-times = λ _. writing-start nexttimes (p .pended) (secondsOf (pendedRow keys Ds));
     }
 
-module _ {keys : List ℕ} {Ds : List State} {p : Tally} {mends₀ nextkeys₀ nexttimes₀ moments mends nextkeys nexttimes : List ℕ} {b : ℕ} {w : Tally}
-    (W : Windowing keys Ds p mends₀ nextkeys₀ nexttimes₀ moments mends nextkeys nexttimes b w) where
-  pub windowing-room : {moments₀ : List ℕ} → LentWindow keys moments₀ mends₀ nextkeys₀ nexttimes₀ p → b < length keys → length moments ≡ length moments₀ → length nextkeys ≡ length nextkeys₀ → length nexttimes ≡ length nexttimes₀
-      → LentTally moments nextkeys nexttimes w
+module _ {most : ℕ} {keys : List ℕ} {Ds : List State} {p : Tally} {mends₀ nextkeys₀ nexttimes₀ moments mends nextkeys nexttimes : List ℕ} {b : ℕ} {w : Tally}
+    (W : Windowing most keys Ds p mends₀ nextkeys₀ nexttimes₀ moments mends nextkeys nexttimes b w) where
+  pub windowing-room : {moments₀ : List ℕ} → LentWindow most keys moments₀ mends₀ nextkeys₀ nexttimes₀ p → b < length keys → length moments ≡ length moments₀ → length nextkeys ≡ length nextkeys₀ → length nexttimes ≡ length nexttimes₀
+      → LentTally (length nextkeys) moments nextkeys nexttimes w
   windowing-room l h lm lk lt =
       record {
         moments-room = omega (arith, W .moments-few, l .keys-few, l .moments-room);
         moments-few = omega (arith, W .moments-few, l .keys-few);
-        next-room = record { within = W .next-few; keys-room = omega (arith, l .next-room .keys-room); times-room = omega (arith, l .next-room .times-room) };
+        next-room = record {
+          within = omega (arith, W .next-few, l .next-room .keys-room);
+          keys-room = refl;
+          times-room = omega (arith, l .next-room .keys-room, l .next-room .times-room);
+          room-few = omega (arith, l .next-room .keys-room, l .next-room .room-few);
+        };
       }
 
-  module _ {D : State} {moments′ nextkeys′ nexttimes′ : List ℕ} {w′ : Tally} (h : b < length keys) (here : drop b Ds ≡ D ∷ drop (b + 1) Ds) (F : FindsSlot D (getD keys b 0) w moments nextkeys nexttimes moments′ nextkeys′ nexttimes′ w′) where
+  module _ {D : State} {moments′ nextkeys′ nexttimes′ : List ℕ} {w′ : Tally} (h : b < length keys) (here : drop b Ds ≡ D ∷ drop (b + 1) Ds) (room : length nextkeys ≡ most) (G : FindsSlot (length nextkeys) D (getD keys b 0) w moments nextkeys nexttimes moments′ nextkeys′ nexttimes′ w′) where
+    F : FindsSlot most D (getD keys b 0) w moments nextkeys nexttimes moments′ nextkeys′ nexttimes′ w′
+    F = rw room at G
+
     still : w′ .over ≡ false → w .over ≡ false
     unfolding slotOver
     still o = or-false-l (w .over) _ (sym (F .over-is) ∙ o)
 
-    over-on : windowOver (w′ .over) (w′ .pended) (drop (b + 1) Ds) ≡ windowOver (p .over) (p .pended) Ds
+    over-on : windowOver most (w′ .over) (w′ .pended) (drop (b + 1) Ds) ≡ windowOver most (p .over) (p .pended) Ds
     over-on =
-        over-step (w .over) (w .pended) D (drop (b + 1) Ds) (F .over-is) (λ o. F .times-are o .end)
-        ∙ ap (windowOver (w .over) (w .pended)) (sym here) ∙ W .over-is
+        over-step most (w .over) (w .pended) D (drop (b + 1) Ds) (F .over-is) (λ o. F .times-are o .end)
+        ∙ ap (windowOver most (w .over) (w .pended)) (sym here) ∙ W .over-is
 
     long-on : w′ .over ≡ false → w′ .moments + length (whole (momentsOf (drop (b + 1) Ds))) ≡ length (whole (momentsOf Ds))
     long-on o =
@@ -350,7 +368,7 @@ module _ {keys : List ℕ} {Ds : List State} {p : Tally} {mends₀ nextkeys₀ n
     rows-here = λ i. pendedRow (drop-more keys b 0 h i) (here i)
 
     pub windowing-more : length mends ≡ length mends₀ → length keys ≤ length mends₀ → length nextkeys′ ≡ length nextkeys → length nexttimes′ ≡ length nexttimes
-        → Windowing keys Ds p mends₀ nextkeys₀ nexttimes₀ moments′ (set mends b (w′ .moments)) nextkeys′ nexttimes′ (b + 1) w′
+        → Windowing most keys Ds p mends₀ nextkeys₀ nexttimes₀ moments′ (set mends b (w′ .moments)) nextkeys′ nexttimes′ (b + 1) w′
     windowing-more le lk lk′ lt′ =
         record {
           within = omega arith;
@@ -364,12 +382,12 @@ module _ {keys : List ℕ} {Ds : List State} {p : Tally} {mends₀ nextkeys₀ n
           next-times = λ o. writing-append (W .next-times (still o)) (F .times-are o) lt′ (ap secondsOf rows-here ∙ seconds-next (getD keys b 0) (drop (b + 1) keys) D (drop (b + 1) Ds));
         }
 
-  pub windowing-end : length keys ≤ b → drop b Ds ≡ [] → FindsWindow keys Ds p mends₀ nextkeys₀ nexttimes₀ moments mends nextkeys nexttimes w
+  pub windowing-end : length keys ≤ b → drop b Ds ≡ [] → FindsWindow most keys Ds p mends₀ nextkeys₀ nexttimes₀ moments mends nextkeys nexttimes w
   windowing-end h e =
       let q : b ≡ length keys = omega (arith, W .within) in
       let rows : pendedRow (drop b keys) (drop b Ds) ≡ [] = ap (pendedRow (drop b keys)) e ∙ row-none (drop b keys) in
       record {
-        over-is = sym (over-none (w .over) (w .pended) (W .next-few)) ∙ ap (windowOver (w .over) (w .pended)) (sym e) ∙ W .over-is;
+        over-is = sym (over-none most (w .over) (w .pended) (W .next-few)) ∙ ap (windowOver most (w .over) (w .pended)) (sym e) ∙ W .over-is;
         next-few = W .next-few;
         row-long = λ o. omega (arith, ap (λ l. length (whole (momentsOf l))) e, W .row-long o);
         row-is = λ o. sym (append-nil (take (w .moments) moments)) ∙ ap (λ l. take (w .moments) moments ++ whole (momentsOf l)) (sym e) ∙ W .row-is o;
@@ -389,5 +407,5 @@ module _ {n b : ℕ} (f : n ≤ 64) (h : b < n) where
 pub less-left : (n b : ℕ) → b < n → n - (b + 1) < n - b
 less-left n b h = omega arith
 
-pub mends-here : {keys moments mends₀ nextkeys nexttimes : List ℕ} {p : Tally} (mends : List ℕ) {b : ℕ} → LentWindow keys moments mends₀ nextkeys nexttimes p → length mends ≡ length mends₀ → b < length keys → b < length mends
+pub mends-here : {most : ℕ} {keys moments mends₀ nextkeys nexttimes : List ℕ} {p : Tally} (mends : List ℕ) {b : ℕ} → LentWindow most keys moments mends₀ nextkeys nexttimes p → length mends ≡ length mends₀ → b < length keys → b < length mends
 mends-here mends l e h = omega (arith, l .mends-room)

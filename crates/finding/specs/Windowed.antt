@@ -4,9 +4,10 @@
 -- spansIn, fourfold: the parts that two columns tell, and what is found from four lists of parts
 -- momentsOf, pendedRow: the moments of each key, and the pended times of all, each with its key. firstsOf, secondsOf: the columns of pairs
 -- windowOver: a limit was passed before, or by a key, or there are too many pended times in all
+-- most: for how many pended times in all there is room, as in Tallies
 -- LentRuns: what is asked of the runs. LentSpans: four parts lie within their runs
 -- Parted: two columns tell n parts of a run. LentWindow: what a window's discovery asks. FindsWindow: what it leaves
-use Prim.Native.Nat.{ℕ, _+_, _≤_, _<_}
+use Prim.Native.Nat.{ℕ, _+_, _*_, _≤_, _<_}
 use mathlib.Core.Bool.{Bool, false, _||_}
 use mathlib.Core.List.{List, [], _∷_, _++_, map}
 use mathlib.Core.Path.{_≡_}
@@ -14,18 +15,16 @@ use lib.Dec.{ltb}
 use lib.IntN.{ℤ}
 use lib.ListN.{length, take, getD}
 use Rattle.grid.specs.Lists.{any, flat}
-use Rattle.grid.specs.Records.{mostRecords}
 use Rattle.grid.specs.Slices.{Laid}
 use Rattle.grid.proofs.Lists.{All}
-use Rattle.rules.specs.Discover.{State, discover}
+use Rattle.rules.specs.Discover.{mostMoments, State, discover}
 use Rattle.consolidation.specs.Entries.{mass, mostMass}
 use Rattle.edits.specs.Edits.{edits, Alike}
 use Rattle.backends.specs.Columns.{Column}
-use Rattle.backends.specs.Crossing.{part, ends, whole}
+use Rattle.backends.specs.Segments.{part, ends, whole}
 use Rattle.keys.specs.Spans.{Within}
 use Rattle.keys.specs.declared.Span.{Span}
 use Rattle.tallies.specs.Appends.{NextRoom}
-use Rattle.tallies.specs.Tallied.{mostInput, mostWindow}
 use Rattle.tallies.specs.declared.Tally.{Tally}
 
 abbrev pub spanIn : List ℕ → List ℕ → ℕ → Span
@@ -36,13 +35,13 @@ stateAt upper newtimes pendingtimes intimes invalues indiffs outtimes n p i o =
     discover upper (part (n .from) (n .to) newtimes) (part (p .from) (p .to) pendingtimes)
     (edits (part (i .from) (i .to) intimes) (part (i .from) (i .to) invalues) (part (i .from) (i .to) indiffs)) (part (o .from) (o .to) outtimes)
 
-pub record LentRuns (newtimes pendingtimes intimes invalues : List ℕ) (indiffs : List ℤ) (outtimes : List ℕ) : Type 0 where
-  pub new-few : length newtimes ≤ mostRecords
-  pub pending-few : length pendingtimes ≤ mostRecords
-  pub input-few : length intimes ≤ mostInput
+pub record LentRuns (most : ℕ) (newtimes pendingtimes intimes invalues : List ℕ) (indiffs : List ℤ) (outtimes : List ℕ) : Type 0 where
+  pub new-few : length newtimes ≤ most
+  pub pending-few : length pendingtimes ≤ most
+  pub input-few : length intimes ≤ most + most
   pub input-alike : Alike intimes invalues indiffs
   pub input-light : mass indiffs ≤ mostMass
-  pub out-few : length outtimes ≤ mostRecords
+  pub out-few : length outtimes ≤ most
 
 pub record LentSpans (new : ℕ) (n : Span) (pending : ℕ) (p : Span) (input : ℕ) (i : Span) (out : ℕ) (o : Span) : Type 0 where
   pub new-within : Within new n
@@ -77,8 +76,8 @@ firstsOf ps = map (λ p. p .0) ps
 abbrev pub secondsOf : List (ℕ × ℕ) → List ℕ
 secondsOf ps = map (λ p. p .1) ps
 
-unfoldable pub windowOver : Bool → ℕ → List State → Bool
-windowOver over n Ds = over || (any (λ (D : State). D .over) Ds || ltb mostRecords (n + length (flat (λ (D : State). D .pended) Ds)))
+unfoldable pub windowOver : ℕ → Bool → ℕ → List State → Bool
+windowOver most over n Ds = over || (any (λ (D : State). D .over) Ds || ltb most (n + length (flat (λ (D : State). D .pended) Ds)))
 
 -- ---- what the discovery of a window asks, and what it leaves
 pub record Parted (n long : ℕ) (from to : List ℕ) : Type 0 where
@@ -86,16 +85,16 @@ pub record Parted (n long : ℕ) (from to : List ℕ) : Type 0 where
   pub to-long : length to ≡ n
   pub inside : All (Within long) (spansIn from to)
 
-pub record LentWindow (keys moments mends nextkeys nexttimes : List ℕ) (p : Tally) : Type 0 where
+pub record LentWindow (most : ℕ) (keys moments mends nextkeys nexttimes : List ℕ) (p : Tally) : Type 0 where
   pub keys-few : length keys ≤ 64
   pub none-yet : p .moments ≡ 0
-  pub moments-room : mostWindow < length moments
+  pub moments-room : length keys * mostMoments < length moments
   pub mends-room : length keys ≤ length mends
-  pub next-room : NextRoom (p .pended) nextkeys nexttimes
+  pub next-room : NextRoom most (p .pended) nextkeys nexttimes
 
-pub record FindsWindow (keys : List ℕ) (Ds : List State) (p : Tally) (mends nextkeys nexttimes moments′ mends′ nextkeys′ nexttimes′ : List ℕ) (r : Tally) : Type 0 where
-  pub over-is : r .over ≡ windowOver (p .over) (p .pended) Ds
-  pub next-few : r .pended ≤ mostRecords
+pub record FindsWindow (most : ℕ) (keys : List ℕ) (Ds : List State) (p : Tally) (mends nextkeys nexttimes moments′ mends′ nextkeys′ nexttimes′ : List ℕ) (r : Tally) : Type 0 where
+  pub over-is : r .over ≡ windowOver most (p .over) (p .pended) Ds
+  pub next-few : r .pended ≤ most
   pub row-long : r .over ≡ false → r .moments ≡ length (whole (momentsOf Ds))
   pub row-is : r .over ≡ false → take (r .moments) moments′ ≡ whole (momentsOf Ds)
   pub ends-are : r .over ≡ false → Laid (ends 0 (momentsOf Ds)) mends mends′ (length keys)

@@ -5,7 +5,7 @@ use tallies::Tally;
 use times::KeyHash;
 ghost use mathlib.Core.Path.{_≡_};
 ghost use Prim.Native.Nat.{_<_};
-ghost use lib.ListN.{length};
+ghost use lib.ListN.{length, take};
 ghost use Rattle.finding.specs.Tallies.{Scratch};
 ghost use Rattle.finding.specs.Windowed.{LentRuns, LentWindow, Parted, spanIn, spansIn, stateAt, fourfold, FindsWindow};
 
@@ -20,8 +20,9 @@ fn span_at(from: &[usize], to: &[usize], b: usize) -> Span
     }
 }
 
-// Finds the moments and the pended times of all keys of a window. Slot b's moments are laid in a row, and end at mends[b]; its pended times follow
-// those of the keys before in the next pending list. From the seeds to the work diffs, all but the moments is scratch.
+// Finds the moments and the pended times of all keys of a window, whose parts of the runs the fronts of eight columns tell. Slot b's moments are
+// laid in a row, and end at mends[b]; its pended times follow those of the keys before in the next pending list. From the seeds to the work diffs,
+// all but the moments is scratch.
 pub fn find_window(
     upper: &[u64],
     keys: &[u64],
@@ -58,10 +59,10 @@ pub fn find_window(
     mends: &mut [usize],
     p: Tally,
 ) -> Tally
-    requires { ⌜ Scratch (now seeds) (now times) (now values) (now diffs) (now output) (now meets) (now waiting) (now tracked) (now pended) (now work) (now places) (now wvalues) (now wdiffs) ⌝ }
-    requires { ⌜ LentRuns (now newtimes) (now pendingtimes) (now intimes) (now invalues) (now indiffs) (now outtimes) × LentWindow (now keys) (now moments) (now mends) (now nextkeys) (now nexttimes) p ⌝ }
-    requires { ⌜ Parted (length (now keys)) (length (now newtimes)) (now nfrom) (now nto) × (Parted (length (now keys)) (length (now pendingtimes)) (now pfrom) (now pto) × (Parted (length (now keys)) (length (now intimes)) (now ifrom) (now ito) × Parted (length (now keys)) (length (now outtimes)) (now ofrom) (now oto))) ⌝ }
-    ensures { λ r. ⌜ FindsWindow (now (keys .entry)) (fourfold (stateAt (now (upper .entry)) (now (newtimes .entry)) (now (pendingtimes .entry)) (now (intimes .entry)) (now (invalues .entry)) (now (indiffs .entry)) (now (outtimes .entry))) (spansIn (now (nfrom .entry)) (now (nto .entry))) (spansIn (now (pfrom .entry)) (now (pto .entry))) (spansIn (now (ifrom .entry)) (now (ito .entry))) (spansIn (now (ofrom .entry)) (now (oto .entry)))) p (now (mends .entry)) (now (nextkeys .entry)) (now (nexttimes .entry)) (now (moments .exit)) (now (mends .exit)) (now (nextkeys .exit)) (now (nexttimes .exit)) r ⌝ }
+    requires { ⌜ Scratch (length (now nextkeys)) (now seeds) (now times) (now values) (now diffs) (now output) (now meets) (now waiting) (now tracked) (now pended) (now work) (now places) (now wvalues) (now wdiffs) ⌝ }
+    requires { ⌜ LentRuns (length (now nextkeys)) (now newtimes) (now pendingtimes) (now intimes) (now invalues) (now indiffs) (now outtimes) × LentWindow (length (now nextkeys)) (now keys) (now moments) (now mends) (now nextkeys) (now nexttimes) p ⌝ }
+    requires { ⌜ Parted (length (now keys)) (length (now newtimes)) (take (length (now keys)) (now nfrom)) (take (length (now keys)) (now nto)) × (Parted (length (now keys)) (length (now pendingtimes)) (take (length (now keys)) (now pfrom)) (take (length (now keys)) (now pto)) × (Parted (length (now keys)) (length (now intimes)) (take (length (now keys)) (now ifrom)) (take (length (now keys)) (now ito)) × Parted (length (now keys)) (length (now outtimes)) (take (length (now keys)) (now ofrom)) (take (length (now keys)) (now oto)))) ⌝ }
+    ensures { λ r. ⌜ FindsWindow (length (now (nextkeys .entry))) (now (keys .entry)) (fourfold (stateAt (now (upper .entry)) (now (newtimes .entry)) (now (pendingtimes .entry)) (now (intimes .entry)) (now (invalues .entry)) (now (indiffs .entry)) (now (outtimes .entry))) (spansIn (take (length (now (keys .entry))) (now (nfrom .entry))) (take (length (now (keys .entry))) (now (nto .entry)))) (spansIn (take (length (now (keys .entry))) (now (pfrom .entry))) (take (length (now (keys .entry))) (now (pto .entry)))) (spansIn (take (length (now (keys .entry))) (now (ifrom .entry))) (take (length (now (keys .entry))) (now (ito .entry)))) (spansIn (take (length (now (keys .entry))) (now (ofrom .entry))) (take (length (now (keys .entry))) (now (oto .entry))))) p (now (mends .entry)) (now (nextkeys .entry)) (now (nexttimes .entry)) (now (moments .exit)) (now (mends .exit)) (now (nextkeys .exit)) (now (nexttimes .exit)) r ⌝ }
 {
     let mut b = 0;
     let mut w = p;

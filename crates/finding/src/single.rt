@@ -44,9 +44,9 @@ pub fn find_key(
     nexttimes: &mut [u64],
     p: Tally,
 ) -> Tally
-    requires { ⌜ Scratch (now seeds) (now times) (now values) (now diffs) (now output) (now meets) (now waiting) (now tracked) (now pended) (now work) (now places) (now wvalues) (now wdiffs) ⌝ }
-    requires { ⌜ LentRuns (now newtimes) (now pendingtimes) (now intimes) (now invalues) (now indiffs) (now outtimes) × (LentSpans (length (now newtimes)) ns (length (now pendingtimes)) ps (length (now intimes)) ins (length (now outtimes)) os × LentTally (now moments) (now nextkeys) (now nexttimes) p) ⌝ }
-    ensures { λ r. ⌜ FindsSlot (stateAt (now (upper .entry)) (now (newtimes .entry)) (now (pendingtimes .entry)) (now (intimes .entry)) (now (invalues .entry)) (now (indiffs .entry)) (now (outtimes .entry)) ns ps ins os) (key .0) p (now (moments .entry)) (now (nextkeys .entry)) (now (nexttimes .entry)) (now (moments .exit)) (now (nextkeys .exit)) (now (nexttimes .exit)) r ⌝ }
+    requires { ⌜ Scratch (length (now nextkeys)) (now seeds) (now times) (now values) (now diffs) (now output) (now meets) (now waiting) (now tracked) (now pended) (now work) (now places) (now wvalues) (now wdiffs) ⌝ }
+    requires { ⌜ LentRuns (length (now nextkeys)) (now newtimes) (now pendingtimes) (now intimes) (now invalues) (now indiffs) (now outtimes) × (LentSpans (length (now newtimes)) ns (length (now pendingtimes)) ps (length (now intimes)) ins (length (now outtimes)) os × LentTally (length (now nextkeys)) (now moments) (now nextkeys) (now nexttimes) p) ⌝ }
+    ensures { λ r. ⌜ FindsSlot (length (now (nextkeys .entry))) (stateAt (now (upper .entry)) (now (newtimes .entry)) (now (pendingtimes .entry)) (now (intimes .entry)) (now (invalues .entry)) (now (indiffs .entry)) (now (outtimes .entry)) ns ps ins os) (key .0) p (now (moments .entry)) (now (nextkeys .entry)) (now (nexttimes .entry)) (now (moments .exit)) (now (nextkeys .exit)) (now (nexttimes .exit)) r ⌝ }
 {
     let m = p.moments;
     let end = moments.len();
@@ -75,5 +75,5 @@ pub fn find_key(
     );
     let c = pended_count(r);
     let n = append_pended(key, &pended[0..c], nextkeys, nexttimes, p.pended);
-    tally_with(p, r, n)
+    tally_with(p, r, n, nextkeys.len())
 }

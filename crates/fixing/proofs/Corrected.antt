@@ -2,7 +2,7 @@
 --
 -- column-within: where a column that was written ends. held-values, held-diffs, held-entries: what was written to the front of two columns
 -- Large: whether a correction is too large. large-rows: of its records
--- rows-fixed: a key's correction as the records of its round. fixes-fit, fixes-small: one that is not too large has room, and is in range
+-- rows-fixed: a key's correction as the records of its round. rows-length: how many they are. fixes-fit, fixes-small: one that is not too large has room, and is in range
 -- over-fixed: what is promised of one that is too large. append-asks: what appending another asks. append-fixed: what that gives
 use Prim.Native.Nat.{ℕ, _+_, _-_, _≤_, _^_}
 use native.Mathlib.Omega.{arith}
@@ -23,7 +23,8 @@ use Rattle.rules.specs.Backends.{Sums}
 use Rattle.backends.specs.Columns.{entries, valuesOf, diffsOf, Column, Appended}
 use Rattle.backends.proofs.Columns.{less}
 use Rattle.slots.specs.Slots.{rowsIn, rowsTooLarge}
-use Rattle.fixing.specs.Fixes.{fixRows, RowsListed, Appends}
+use Rattle.slots.proofs.Large.{large-fits}
+use Rattle.fixing.specs.Fixes.{fixRow, fixRows, RowsListed, Appends}
 use Rattle.fixing.specs.Settle.{Fixes, FixedAt}
 
 -- ---- columns
@@ -81,44 +82,46 @@ in-range : (d : ℤ) → inRange d ≡ true → natAbs d ≤ 2 ^ 31
 unfolding inRange
 in-range d e = leb-true (natAbs d) 2147483648 e
 
-large-rows : (n : ℕ) (R : List Row) (cd : List ℤ) → map (λ (x : Row). x .diff) R ≡ cd → (not (every inRange cd) || ltb 4096 (n + length cd)) ≡ rowsTooLarge n R
+large-rows : (most n : ℕ) (R : List Row) (cd : List ℤ) → map (λ (x : Row). x .diff) R ≡ cd → (not (every inRange cd) || ltb most (n + length cd)) ≡ rowsTooLarge most n R
 unfolding rowsTooLarge
-large-rows n R cd e =
+large-rows most n R cd e =
     let l : length R ≡ length cd = sym (length-map R (λ (x : Row). x .diff)) ∙ ap length e in
     let q = sym e in
     let k = sym l in
-    (λ z. not (every inRange (q z)) || ltb 4096 (n + k z)) ∙ ap (λ b. b || ltb 4096 (n + length R)) (sym (any-out R))
+    (λ z. not (every inRange (q z)) || ltb most (n + k z)) ∙ ap (λ b. b || ltb most (n + length R)) (sym (any-out R))
 
 -- ---- not too large
 pub rows-fixed : (k t : ℕ) (b : Bool) (c : Sums) → fixRows k t c ≡ rowsIn k (record { time = t; crossed = b; fixes = c })
 unfolding fixRows rowsIn
 rows-fixed k t b c = refl
 
-module _ (n k t : ℕ) (c : Sums) (h : rowsTooLarge n (fixRows k t c) ≡ false) where
-  few : (not (every inRange (diffsOf c)) || ltb 4096 (n + length (diffsOf c))) ≡ false
-  few = large-rows n (fixRows k t c) (diffsOf c) (fix-diffs k t c) ∙ h
+pub rows-length : (k t : ℕ) (c : Sums) → length (fixRows k t c) ≡ length c
+unfolding fixRows
+rows-length k t c = length-map c (fixRow k t)
 
-  pub fixes-fit : n + length c ≤ 4096
+module _ (most n k t : ℕ) (c : Sums) (h : rowsTooLarge most n (fixRows k t c) ≡ false) where
+  pub fixes-fit : n + length c ≤ most
   fixes-fit =
-      let l : length (diffsOf c) ≡ length c = length-map c (λ (y : ℕ × ℤ). y .1) in
-      let w : n + length (diffsOf c) ≤ 4096 = ltb-false 4096 (n + length (diffsOf c)) (or-false-r (not (every inRange (diffsOf c))) (ltb 4096 (n + length (diffsOf c))) few) in
+      let l : length (fixRows k t c) ≡ length c = rows-length k t c in
+      let w : n + length (fixRows k t c) ≤ most = large-fits n (fixRows k t c) h in
       omega arith
 
   pub fixes-small : All (λ (y : ℕ × ℤ). natAbs (y .1) ≤ 2 ^ 31) c
   fixes-small =
-      let e : every inRange (diffsOf c) ≡ true = not-false (every inRange (diffsOf c)) (or-false-l (not (every inRange (diffsOf c))) (ltb 4096 (n + length (diffsOf c))) few) in
+      let few : (not (every inRange (diffsOf c)) || ltb most (n + length (diffsOf c))) ≡ false = large-rows most n (fixRows k t c) (diffsOf c) (fix-diffs k t c) ∙ h in
+      let e : every inRange (diffsOf c) ≡ true = not-false (every inRange (diffsOf c)) (or-false-l (not (every inRange (diffsOf c))) _ few) in
       map-all (λ (y : ℕ × ℤ). y .1) c (all-imp in-range (every-all inRange (diffsOf c) e))
 
 -- ---- a key's round
-module _ {iv : List ℕ} {id : List ℤ} {ov : List ℕ} {od : List ℤ} {cv : List ℕ} {cd : List ℤ} {fk fv ft : List ℕ} {fd : List ℤ} {n : ℕ} (x : Fixes iv id ov od cv cd fk fv ft fd n)
+module _ {most : ℕ} {iv : List ℕ} {id : List ℤ} {ov : List ℕ} {od : List ℤ} {cv : List ℕ} {cd : List ℤ} {fk fv ft : List ℕ} {fd : List ℤ} {n : ℕ} (x : Fixes most iv id ov od cv cd fk fv ft fd n)
     {c : Sums} {cv′ : List ℕ} {cd′ : List ℤ} {r : ℕ} (a : Appended cv cd 0 c cv′ cd′ r) where
   abbrev pub Large : Bool → Type 0
-  Large b = b ≡ (not (every inRange (take (r - 0) cd′)) || ltb 4096 (n + length (take (r - 0) cd′)))
+  Large b = b ≡ (not (every inRange (take (r - 0) cd′)) || ltb most (n + length (take (r - 0) cd′)))
 
-  large-is : (k t : ℕ) (b : Bool) → Large b → b ≡ rowsTooLarge n (fixRows k t c)
-  large-is k t b h = h ∙ large-rows n (fixRows k t c) (take (r - 0) cd′) (fix-diffs k t c ∙ sym (held-diffs a))
+  large-is : (k t : ℕ) (b : Bool) → Large b → b ≡ rowsTooLarge most n (fixRows k t c)
+  large-is k t b h = h ∙ large-rows most n (fixRows k t c) (take (r - 0) cd′) (fix-diffs k t c ∙ sym (held-diffs a))
 
-  pub over-fixed : (k t : ℕ) → Large true → FixedAt k t c cv cd n (record { count = r; fixes = n; large = true }) cv′ cd′ fk fv ft fd fk fv ft fd
+  pub over-fixed : (k t : ℕ) → Large true → FixedAt most k t c cv cd n (record { count = r; fixes = n; large = true }) cv′ cd′ fk fv ft fd fk fv ft fd
   over-fixed k t h = record { corrected = a; listed = record { large-is = large-is k t true h; fixes-are = λ q. clash true refl q; rows-are = λ q. clash true refl q } }
 
   module _ (few : Large false) where
@@ -126,19 +129,19 @@ module _ {iv : List ℕ} {id : List ℤ} {ov : List ℕ} {od : List ℤ} {cv : L
     append-asks =
         let lv : length (take (r - 0) cv′) ≡ length c = ap length (held-values a) ∙ length-map c (λ (y : ℕ × ℤ). y .0) in
         let ld : length (take (r - 0) cd′) ≡ length c = ap length (held-diffs a) ∙ length-map c (λ (y : ℕ × ℤ). y .1) in
-        let w : n + length (take (r - 0) cd′) ≤ 4096 = ltb-false 4096 (n + length (take (r - 0) cd′)) (or-false-r (not (every inRange (take (r - 0) cd′))) (ltb 4096 (n + length (take (r - 0) cd′))) (sym few)) in
-        let k : length fk ≡ 4096 = x .lent .long-k in
+        let w : n + length (take (r - 0) cd′) ≤ most = ltb-false most (n + length (take (r - 0) cd′)) (or-false-r (not (every inRange (take (r - 0) cd′))) (ltb most (n + length (take (r - 0) cd′))) (sym few)) in
+        let k : length fk ≡ most = x .lent .long-k in
         record { same-c = ld ∙ sym lv; same-v = x .lent .long-v ∙ sym k; same-t = x .lent .long-t ∙ sym k; same-d = x .lent .long-d ∙ sym k; room = omega arith }
 
     pub append-fixed : (k t : ℕ) {fk′ fv′ ft′ : List ℕ} {fd′ : List ℤ} {m : ℕ} → RowsListed fk fv ft fd n (fixRows k t (entries (take (r - 0) cv′) (take (r - 0) cd′))) fk′ fv′ ft′ fd′ m
-        → FixedAt k t c cv cd n (record { count = r; fixes = m; large = false }) cv′ cd′ fk fv ft fd fk′ fv′ ft′ fd′
+        → FixedAt most k t c cv cd n (record { count = r; fixes = m; large = false }) cv′ cd′ fk fv ft fd fk′ fv′ ft′ fd′
     append-fixed k t {fk′} {fv′} {ft′} {fd′} {m} l₀ =
         let l : RowsListed fk fv ft fd n (fixRows k t c) fk′ fv′ ft′ fd′ m = subst (λ (s : Sums). RowsListed fk fv ft fd n (fixRows k t s) fk′ fv′ ft′ fd′ m) (held-entries a) l₀ in
-        let w : n ≤ 4096 = x .fits in
-        let lk : length (take n fk) ≡ n = length-take-le n fk (let z : length fk ≡ 4096 = x .lent .long-k in omega arith) in
-        let lv : length (take n fv) ≡ n = length-take-le n fv (let z : length fv ≡ 4096 = x .lent .long-v in omega arith) in
-        let lt : length (take n ft) ≡ n = length-take-le n ft (let z : length ft ≡ 4096 = x .lent .long-t in omega arith) in
-        let ld : length (take n fd) ≡ n = length-take-le n fd (let z : length fd ≡ 4096 = x .lent .long-d in omega arith) in
+        let w : n ≤ most = x .fits in
+        let lk : length (take n fk) ≡ n = length-take-le n fk (let z : length fk ≡ most = x .lent .long-k in omega arith) in
+        let lv : length (take n fv) ≡ n = length-take-le n fv (let z : length fv ≡ most = x .lent .long-v in omega arith) in
+        let lt : length (take n ft) ≡ n = length-take-le n ft (let z : length ft ≡ most = x .lent .long-t in omega arith) in
+        let ld : length (take n fd) ≡ n = length-take-le n fd (let z : length fd ≡ most = x .lent .long-d in omega arith) in
         record {
           corrected = a;
           listed = record {

@@ -11,9 +11,9 @@ use lib.ListN.{length}
 use Rattle.grid.specs.Lists.{every}
 use Rattle.grid.specs.Records.{inRange}
 
-module _ (cd : List ℤ) (n : ℕ) where
-  pub large-out : every inRange cd ≡ false → true ≡ (not (every inRange cd) || ltb 4096 (n + length cd))
+module _ (cd : List ℤ) (n most : ℕ) where
+  pub large-out : every inRange cd ≡ false → true ≡ (not (every inRange cd) || ltb most (n + length cd))
   large-out e = rw e
 
-  pub large-in : {b : Bool} → every inRange cd ≡ true → b ≡ ltb 4096 (n + length cd) → b ≡ (not (every inRange cd) || ltb 4096 (n + length cd))
+  pub large-in : {b : Bool} → every inRange cd ≡ true → b ≡ ltb most (n + length cd) → b ≡ (not (every inRange cd) || ltb most (n + length cd))
   large-in e q = rw e q

@@ -1,57 +1,24 @@
 -- The rounds of a key that are left.
 --
 -- listed: the corrections of the first n places of four columns. markedFrom j: the marks of the rounds from the j-th on
--- not-large: no corrections are not too large. large-first, large-rest, large-fits: of corrections in two parts, and how many are not too large
--- Left k all left j n r: of the rounds `all` of the key k those `left` are still to be settled, and j are past; n corrections were listed at first, r are now
+-- Left most k all left j n r: of the rounds `all` of the key k those `left` are still to be settled, and j are past; n corrections were listed at first, r are now
 -- left-start: at first all are. left-more: a round settled leaves those after it. left-end, left-marks: where none is left, or the corrections are too large
 use Prim.Native.Nat.{ℕ, zero, suc, _+_, _<_, _≤_}
 use native.Mathlib.Nat.{not-suc-le-zero, le-of-suc-le-suc}
 use native.Mathlib.Omega.{arith}
-use mathlib.Core.Bool.{Bool, true, false, _||_, not}
+use mathlib.Core.Bool.{Bool, true, false, _||_}
 use mathlib.Core.Path.{_≡_, refl, sym, _∙_, ap}
 use mathlib.Core.List.{List, [], _∷_, _++_, append-nil, append-assoc}
-use lib.Dec.{ltb}
 use lib.IntN.{ℤ}
 use lib.ListN.{length, take, drop, length-append, length-set}
-use borrow.Author.Tests.{lt-ltb, ltb-true, ltb-false, le-ltb}
-use Rattle.grid.specs.Lists.{any, flat}
-use Rattle.grid.specs.Records.{Row, mostRecords, inRange, rows}
-use Rattle.grid.proofs.Tests.{by-test, clash, or-l, or-r, or-false-l, or-false-r}
-use Rattle.grid.proofs.Operations.{any-append}
+use Rattle.grid.specs.Lists.{flat}
+use Rattle.grid.specs.Records.{Row, rows}
+use Rattle.grid.proofs.Tests.{by-test, clash, or-l}
 use Rattle.rules.specs.Retire.{Round}
 use Rattle.slots.specs.Slots.{rowsIn, crossedIn, rowsTooLarge}
+use Rattle.slots.proofs.Large.{not-large, large-append, large-fits}
 use Rattle.marks.specs.Marks.{markedAt, marked}
 use Rattle.fixing.specs.Settle.{Listed}
-
--- ---- too large
-abbrev out : Row → Bool
-out r = not (inRange (r .diff))
-
-pub not-large : (n : ℕ) → n ≤ mostRecords → rowsTooLarge n [] ≡ false
-unfolding rowsTooLarge
-not-large n h = le-ltb 4096 (n + 0) (omega arith)
-
-pub large-first : (n : ℕ) (R S : List Row) → rowsTooLarge n R ≡ true → rowsTooLarge n (R ++ S) ≡ true
-unfolding rowsTooLarge
-large-first n R S h =
-    by-test (any out R)
-    (λ e. or-l (any out (R ++ S)) (ltb 4096 (n + length (R ++ S))) (any-append out R S ∙ rw e))
-    (λ e. let g : ltb 4096 (n + length R) ≡ true = rw e at h in
-    let k : 4096 < n + length R = ltb-true 4096 (n + length R) g in
-    let l : length (R ++ S) ≡ length R + length S = length-append R S in
-    or-r (any out (R ++ S)) (ltb 4096 (n + length (R ++ S))) (lt-ltb 4096 (n + length (R ++ S)) (omega arith)))
-
-pub large-rest : (n : ℕ) (R S : List Row) → rowsTooLarge n R ≡ false → rowsTooLarge n (R ++ S) ≡ rowsTooLarge (n + length R) S
-unfolding rowsTooLarge
-large-rest n R S h =
-    let e : any out R ≡ false = or-false-l (any out R) (ltb 4096 (n + length R)) h in
-    let a : any out (R ++ S) ≡ any out S = any-append out R S ∙ rw e in
-    let l : n + length (R ++ S) ≡ n + length R + length S = (let q : length (R ++ S) ≡ length R + length S = length-append R S in omega arith) in
-    λ z. a z || ltb 4096 (l z)
-
-pub large-fits : (n : ℕ) (R : List Row) → rowsTooLarge n R ≡ false → n + length R ≤ mostRecords
-unfolding rowsTooLarge
-large-fits n R h = ltb-false 4096 (n + length R) (or-false-r (any out R) (ltb 4096 (n + length R)) h)
 
 -- ---- marks
 abbrev pub markedFrom : ℕ → List Bool → List ℕ → List ℕ
@@ -80,44 +47,44 @@ marks-none (suc j) (m ∷ ms) = ap (λ l. m ∷ l) (marks-none j ms)
 abbrev pub listed : List ℕ → List ℕ → List ℕ → List ℤ → ℕ → List Row
 listed fk fv ft fd n = rows (take n fk) (take n fv) (take n ft) (take n fd)
 
-pub record Left (k : ℕ) (all left : List Round) (j n r : ℕ) (large : Bool) (marks₀ marks fk₀ fv₀ ft₀ : List ℕ) (fd₀ : List ℤ) (fk fv ft : List ℕ) (fd : List ℤ) : Type 0 where
-  pub over : large ≡ true → rowsTooLarge n (flat (rowsIn k) all) ≡ true
-  pub large-is : large ≡ false → rowsTooLarge n (flat (rowsIn k) all) ≡ rowsTooLarge r (flat (rowsIn k) left)
+pub record Left (most k : ℕ) (all left : List Round) (j n r : ℕ) (large : Bool) (marks₀ marks fk₀ fv₀ ft₀ : List ℕ) (fd₀ : List ℤ) (fk fv ft : List ℕ) (fd : List ℤ) : Type 0 where
+  pub over : large ≡ true → rowsTooLarge most n (flat (rowsIn k) all) ≡ true
+  pub large-is : large ≡ false → rowsTooLarge most n (flat (rowsIn k) all) ≡ rowsTooLarge most r (flat (rowsIn k) left)
   pub fixes-are : large ≡ false → r + length (flat (rowsIn k) left) ≡ n + length (flat (rowsIn k) all)
   pub rows-are : large ≡ false → listed fk fv ft fd r ++ flat (rowsIn k) left ≡ listed fk₀ fv₀ ft₀ fd₀ n ++ flat (rowsIn k) all
   pub marks-are : large ≡ false → markedFrom j (crossedIn left) marks ≡ marked (crossedIn all) marks₀
   pub long-marks : length marks ≡ length marks₀
-  pub fits : large ≡ false → r ≤ mostRecords
+  pub fits : large ≡ false → r ≤ most
 
-pub left-start : {k n : ℕ} {rs : List Round} {marks fk fv ft : List ℕ} {fd : List ℤ} → n ≤ mostRecords → Left k rs rs 0 n n false marks marks fk fv ft fd fk fv ft fd
+pub left-start : {most k n : ℕ} {rs : List Round} {marks fk fv ft : List ℕ} {fd : List ℤ} → n ≤ most → Left most k rs rs 0 n n false marks marks fk fv ft fd fk fv ft fd
 left-start h = record { over = λ e. clash false e refl; large-is = λ e. refl; fixes-are = λ e. refl; rows-are = λ e. refl; marks-are = λ e. refl; long-marks = refl; fits = λ e. h }
 
-module _ {k : ℕ} {all left : List Round} {j n r : ℕ} {marks₀ marks fk₀ fv₀ ft₀ : List ℕ} {fd₀ : List ℤ} {fk fv ft : List ℕ} {fd : List ℤ} where
+module _ {most k : ℕ} {all left : List Round} {j n r : ℕ} {marks₀ marks fk₀ fv₀ ft₀ : List ℕ} {fd₀ : List ℤ} {fk fv ft : List ℕ} {fd : List ℤ} where
   pub left-more : {x : Round} {left′ : List Round} {r′ : ℕ} {large : Bool} {marks′ fk′ fv′ ft′ : List ℕ} {fd′ : List ℤ}
-      → Left k all (x ∷ left) j n r false marks₀ marks fk₀ fv₀ ft₀ fd₀ fk fv ft fd → Listed (rowsIn k x) r large r′ fk fv ft fd fk′ fv′ ft′ fd′
-      → j < length marks → marks′ ≡ markedAt (x .crossed) j marks → left ≡ left′ → Left k all left′ (j + 1) n r′ large marks₀ marks′ fk₀ fv₀ ft₀ fd₀ fk′ fv′ ft′ fd′
+      → Left most k all (x ∷ left) j n r false marks₀ marks fk₀ fv₀ ft₀ fd₀ fk fv ft fd → Listed most (rowsIn k x) r large r′ fk fv ft fd fk′ fv′ ft′ fd′
+      → j < length marks → marks′ ≡ markedAt (x .crossed) j marks → left ≡ left′ → Left most k all left′ (j + 1) n r′ large marks₀ marks′ fk₀ fv₀ ft₀ fd₀ fk′ fv′ ft′ fd′
   left-more {x} {left′} {r′} {large} {marks′} {fk′} {fv′} {ft′} {fd′} l d h m e =
       let R : List Row = rowsIn k x in
       let later : List Row = flat (rowsIn k) left in
-      let w : rowsTooLarge n (flat (rowsIn k) all) ≡ rowsTooLarge r (R ++ later) = l .large-is refl in
+      let w : rowsTooLarge most n (flat (rowsIn k) all) ≡ rowsTooLarge most r (R ++ later) = l .large-is refl in
       let f : r + length (R ++ later) ≡ n + length (flat (rowsIn k) all) = l .fixes-are refl in
       let g : length (R ++ later) ≡ length R + length later = length-append R later in
       let s : flat (rowsIn k) left′ ≡ later = ap (flat (rowsIn k)) (sym e) in
       let s′ : length (flat (rowsIn k) left′) ≡ length later = ap length s in
       record {
-        over = λ p. w ∙ large-first r R later (sym (d .large-is) ∙ p);
-        large-is = λ p. w ∙ large-rest r R later (sym (d .large-is) ∙ p) ∙ (let a = sym (d .fixes-are p) in let b = sym s in λ z. rowsTooLarge (a z) (b z));
+        over = λ p. w ∙ large-append most r R later ∙ or-l _ _ (sym (d .large-is) ∙ p);
+        large-is = λ p. w ∙ large-append most r R later ∙ ap (λ b. b || rowsTooLarge most (r + length R) later) (sym (d .large-is) ∙ p) ∙ (let a = sym (d .fixes-are p) in let b = sym s in λ z. rowsTooLarge most (a z) (b z));
         fixes-are = λ p. (let a : r′ ≡ r + length R = d .fixes-are p in omega arith);
         rows-are = λ p. ap (λ t. listed fk′ fv′ ft′ fd′ r′ ++ t) s ∙ ap (λ t. t ++ later) (d .rows-are p) ∙ append-assoc (listed fk fv ft fd r) R later ∙ l .rows-are refl;
         marks-are = λ p. (let q : j + 1 ≡ suc j = omega arith in let e′ = sym e in λ z. markedFrom (q z) (crossedIn (e′ z)) (m z)) ∙ marks-more (x .crossed) (crossedIn left) j marks h ∙ l .marks-are refl;
         long-marks = ap length m ∙ marks-long (x .crossed) j marks ∙ l .long-marks;
-        fits = λ p. (let a : r′ ≡ r + length R = d .fixes-are p in let b : r + length R ≤ 4096 = large-fits r R (sym (d .large-is) ∙ p) in omega arith);
+        fits = λ p. (let a : r′ ≡ r + length R = d .fixes-are p in let b : r + length R ≤ most = large-fits r R (sym (d .large-is) ∙ p) in omega arith);
       }
 
-  module _ {large : Bool} (l : Left k all left j n r large marks₀ marks fk₀ fv₀ ft₀ fd₀ fk fv ft fd) (e : large ≡ false → left ≡ []) where
-    pub left-end : Listed (flat (rowsIn k) all) n large r fk₀ fv₀ ft₀ fd₀ fk fv ft fd
+  module _ {large : Bool} (l : Left most k all left j n r large marks₀ marks fk₀ fv₀ ft₀ fd₀ fk fv ft fd) (e : large ≡ false → left ≡ []) where
+    pub left-end : Listed most (flat (rowsIn k) all) n large r fk₀ fv₀ ft₀ fd₀ fk fv ft fd
     left-end = record {
-      large-is = by-test large (λ p. p ∙ sym (l .over p)) (λ p. p ∙ sym (l .large-is p ∙ ap (λ s. rowsTooLarge r (flat (rowsIn k) s)) (e p) ∙ not-large r (l .fits p)));
+      large-is = by-test large (λ p. p ∙ sym (l .over p)) (λ p. p ∙ sym (l .large-is p ∙ ap (λ s. rowsTooLarge most r (flat (rowsIn k) s)) (e p) ∙ not-large r (l .fits p)));
       fixes-are = λ p. (let a : length (flat (rowsIn k) left) ≡ 0 = ap (λ s. length (flat (rowsIn k) s)) (e p) in let b : r + length (flat (rowsIn k) left) ≡ n + length (flat (rowsIn k) all) = l .fixes-are p in omega arith);
       rows-are = λ p. sym (append-nil (listed fk fv ft fd r)) ∙ ap (λ s. listed fk fv ft fd r ++ flat (rowsIn k) s) (sym (e p)) ∙ l .rows-are p;
     }

@@ -5,6 +5,7 @@ use crate::ranges::is_too_large;
 use backends::correct;
 use times::KeyHash;
 use times::PackedTime;
+ghost use lib.ListN.{length};
 ghost use Rattle.rules.specs.Backends.{correction};
 ghost use Rattle.backends.specs.Columns.{entries};
 ghost use Rattle.fixing.specs.Settle.{Fixes, FixedAt};
@@ -27,11 +28,11 @@ pub fn settle_moment(
     fd: &mut [i64],
     fixes: usize,
 ) -> Fixed
-    requires { ⌜ Fixes (now iv) (now id) (now ov) (now od) (now cv) (now cd) (now fk) (now fv) (now ft) (now fd) fixes ⌝ }
-    ensures { λ r. ⌜ FixedAt (key .0) (t .0) (correction mode (entries (now (iv .entry)) (now (id .entry))) (entries (now (ov .entry)) (now (od .entry)))) (now (cv .entry)) (now (cd .entry)) fixes r (now (cv .exit)) (now (cd .exit)) (now (fk .entry)) (now (fv .entry)) (now (ft .entry)) (now (fd .entry)) (now (fk .exit)) (now (fv .exit)) (now (ft .exit)) (now (fd .exit)) ⌝ }
+    requires { ⌜ Fixes (length (now fk)) (now iv) (now id) (now ov) (now od) (now cv) (now cd) (now fk) (now fv) (now ft) (now fd) fixes ⌝ }
+    ensures { λ r. ⌜ FixedAt (length (now (fk .entry))) (key .0) (t .0) (correction mode (entries (now (iv .entry)) (now (id .entry))) (entries (now (ov .entry)) (now (od .entry)))) (now (cv .entry)) (now (cd .entry)) fixes r (now (cv .exit)) (now (cd .exit)) (now (fk .entry)) (now (fv .entry)) (now (ft .entry)) (now (fd .entry)) (now (fk .exit)) (now (fv .exit)) (now (ft .exit)) (now (fd .exit)) ⌝ }
 {
     let k = correct(mode, iv, id, ov, od, cv, cd, 0);
-    if is_too_large(fixes, &cd[0..k]) {
+    if is_too_large(fixes, &cd[0..k], fk.len()) {
         return Fixed {
             count: k,
             fixes,

@@ -6,15 +6,15 @@ ghost use Prim.Native.Nat.{_+_, _≤_};
 ghost use lib.Dec.{ltb};
 ghost use lib.ListN.{length};
 ghost use Rattle.grid.specs.Lists.{every};
-ghost use Rattle.grid.specs.Records.{inRange};
+ghost use Rattle.grid.specs.Records.{mostRecords, inRange};
 
-// Whether, beside `count` corrections so far, these are too many, or one of them is out of range.
-pub fn is_too_large(count: usize, cd: &[i64]) -> bool
-    requires { ⌜ count ≤ 4096 ⌝ }
-    ensures { λ r. ⌜ r ≡ (not (every inRange (now (cd .entry))) || ltb 4096 (count + length (now (cd .entry)))) ⌝ }
+// Whether, beside `count` corrections so far, these are more than there is room for, or one of them is out of range.
+pub fn is_too_large(count: usize, cd: &[i64], most: usize) -> bool
+    requires { ⌜ (count ≤ most) × (most ≤ mostRecords) ⌝ }
+    ensures { λ r. ⌜ r ≡ (not (every inRange (now (cd .entry))) || ltb most (count + length (now (cd .entry)))) ⌝ }
 {
     if !are_in_range(cd) {
         return true;
     }
-    count + cd.len() > 4096
+    count + cd.len() > most
 }

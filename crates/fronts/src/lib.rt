@@ -2,7 +2,7 @@
 use mending::correct_window;
 use progress::Progress;
 ghost use lib.ListN.{length, take};
-ghost use Rattle.backends.specs.Crossing.{segments};
+ghost use Rattle.backends.specs.Segments.{segments};
 ghost use Rattle.moments.specs.Present.{edits};
 ghost use Rattle.moments.specs.Window.{partsOf};
 ghost use Rattle.mending.specs.Corrected.{Wide, Corrects, Corrected};
@@ -45,9 +45,9 @@ pub fn correct_fronts(
     res: &mut [u64],
     f: Fronts,
 ) -> Progress
-    requires { ⌜ Wide (now uv) (now ut) (now ud) (now iv) (now id) (now ov) (now od) (now cd) (now res) ⌝ }
-    requires { ⌜ Full f × Corrects (now keys) (now moments) (take (length (now keys)) (f .mends)) (take (length (now keys)) (f .ifrom)) (take (length (now keys)) (f .ito)) (now tv) (now tt) (now td) (take (length (now keys)) (f .ofrom)) (take (length (now keys)) (f .oto)) (now outvalues) (now outtimes) (now outdiffs) (now fk) (now fv) (now ft) (now fd) (f .progress) ⌝ }
-    ensures { λ r. ⌜ Corrected mode (now (keys .entry)) (partsOf (take (length (now (keys .entry))) (f .ifrom)) (take (length (now (keys .entry))) (f .ito)) (edits (now (tv .entry)) (now (tt .entry)) (now (td .entry)))) (partsOf (take (length (now (keys .entry))) (f .ofrom)) (take (length (now (keys .entry))) (f .oto)) (edits (now (outvalues .entry)) (now (outtimes .entry)) (now (outdiffs .entry)))) (segments 0 (take (length (now (keys .entry))) (f .mends)) (now (moments .entry))) (f .progress) r (now (fk .entry)) (now (fv .entry)) (now (ft .entry)) (now (fd .entry)) (now (fk .exit)) (now (fv .exit)) (now (ft .exit)) (now (fd .exit)) ⌝ }
+    requires { ⌜ Wide (length (now fk)) (now uv) (now ut) (now ud) (now iv) (now id) (now ov) (now od) (now cd) (now res) ⌝ }
+    requires { ⌜ Full f × Corrects (length (now fk)) (now keys) (now moments) (take (length (now keys)) (f .mends)) (take (length (now keys)) (f .ifrom)) (take (length (now keys)) (f .ito)) (now tv) (now tt) (now td) (take (length (now keys)) (f .ofrom)) (take (length (now keys)) (f .oto)) (now outvalues) (now outtimes) (now outdiffs) (now fk) (now fv) (now ft) (now fd) (f .progress) ⌝ }
+    ensures { λ r. ⌜ Corrected (length (now (fk .entry))) mode (now (keys .entry)) (partsOf (take (length (now (keys .entry))) (f .ifrom)) (take (length (now (keys .entry))) (f .ito)) (edits (now (tv .entry)) (now (tt .entry)) (now (td .entry)))) (partsOf (take (length (now (keys .entry))) (f .ofrom)) (take (length (now (keys .entry))) (f .oto)) (edits (now (outvalues .entry)) (now (outtimes .entry)) (now (outdiffs .entry)))) (segments 0 (take (length (now (keys .entry))) (f .mends)) (now (moments .entry))) (f .progress) r (now (fk .entry)) (now (fv .entry)) (now (ft .entry)) (now (fd .entry)) (now (fk .exit)) (now (fv .exit)) (now (ft .exit)) (now (fd .exit)) ⌝ }
 {
     let n = keys.len();
     let mends = f.mends;

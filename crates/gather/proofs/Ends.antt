@@ -14,7 +14,7 @@ use Rattle.grid.proofs.Tests.{by-test}
 use Rattle.grid.proofs.Operations.{front-fits, map-drop}
 use Rattle.rules.specs.Histories.{Edit, timeOf}
 use Rattle.histories.proofs.Steps.{front-take, past-drop}
-use Rattle.backends.specs.Crossing.{part}
+use Rattle.backends.specs.Segments.{part}
 use Rattle.moments.specs.Present.{edits}
 use Rattle.gather.specs.Gather.{upTo}
 use Rattle.gather.proofs.Columns.{edits-times}

@@ -16,13 +16,13 @@ use Rattle.consolidation.specs.Entries.{mostMass}
 use Rattle.edits.specs.Edits as timed
 use Rattle.edits.specs.Buffers.{LentBuffer}
 use Rattle.advances.specs.Renewed.{Renewed}
-use Rattle.backends.specs.Crossing.{part}
+use Rattle.backends.specs.Segments.{part}
 use Rattle.backends.proofs.Segments.{part-length}
 use Rattle.moments.specs.Present.{edits}
-use Rattle.moments.proofs.Showing.{part-edits}
+use Rattle.moments.proofs.Columns.{edits-long, part-edits}
 use Rattle.rounds.specs.Merges.{Rows, Lays}
 use Rattle.gather.specs.Gather.{Ascends, upTo, gathered, From, FromDone}
-use Rattle.gather.proofs.Columns.{edits-long, rows-front}
+use Rattle.gather.proofs.Columns.{rows-front}
 use Rattle.gather.proofs.Ends.{times-end, ends-bounds, ends-front, ends-past}
 use Rattle.gather.proofs.Bounds.{front-light, gathered-light, gathered-ascends}
 use Rattle.gather.proofs.Buffers.{buffer-asks, buffer-held}

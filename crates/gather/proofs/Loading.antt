@@ -17,9 +17,10 @@ use Rattle.edits.specs.Edits as timed
 use Rattle.edits.specs.Buffers.{LoadsEdits, LentLoad}
 use Rattle.edits.proofs.Masses.{mass-column}
 use Rattle.moments.specs.Present.{edits}
+use Rattle.moments.proofs.Columns.{edits-long}
 use Rattle.gather.specs.Meets.{meetOf, meetsOf}
 use Rattle.gather.specs.Loads.{Timely, LoadsKey, LoadedKey}
-use Rattle.gather.proofs.Columns.{edits-both, edits-long}
+use Rattle.gather.proofs.Columns.{edits-both}
 use Rattle.gather.proofs.Meeting.{meets-at}
 use Rattle.gather.proofs.Under.{load-timely}
 

@@ -12,7 +12,7 @@ use lib.ListN.{length, take, drop, getD, set, length-set, length-drop, drop-of-l
 use lib.Seq.{drop-cons, drop-set-lt, getD-set-same, getD-take}
 use Rattle.grid.specs.Times.{meet, meetOnto, meets}
 use Rattle.grid.proofs.Loops.{drop-more}
-use Rattle.backends.specs.Crossing.{part}
+use Rattle.backends.specs.Segments.{part}
 use Rattle.gather.specs.Meets.{meetOf, meetsOf}
 
 pub past-none : (i : ℕ) (l : List ℕ) → length l ≤ i → 0 ≡ meetOf (drop i l)

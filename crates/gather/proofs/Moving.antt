@@ -10,12 +10,11 @@ use lib.ListN.{length, take, drop, getD, set, length-take}
 use Rattle.grid.proofs.Loops.{drop-more, ahead-getD}
 use Rattle.grid.proofs.Slices.{drop-later}
 use Rattle.backends.specs.Columns.{Column}
-use Rattle.backends.specs.Crossing.{part}
+use Rattle.backends.specs.Segments.{part}
 use Rattle.backends.proofs.Columns.{Writing, writing-start, writing-more, writing-end}
 use Rattle.moments.specs.Present.{edits}
-use Rattle.moments.proofs.Showing.{part-edits}
+use Rattle.moments.proofs.Columns.{edits-append, take-edits, drop-edits, part-edits}
 use Rattle.gather.specs.Gather.{Moves, Moved}
-use Rattle.gather.proofs.Columns.{take-edits, drop-edits, edits-append}
 
 -- ---- one column
 part-more : {A : Type 0} (i e : ℕ) (l : List A) (d : A) → i < e → e ≤ length l → part i e l ≡ getD l i d ∷ part (i + 1) e l

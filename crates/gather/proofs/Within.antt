@@ -18,10 +18,10 @@ use Rattle.consolidation.specs.Entries.{mostMass}
 use Rattle.edits.specs.Edits as timed
 use Rattle.edits.specs.Buffers.{LentBuffer}
 use Rattle.advances.specs.Renewed.{Renewed}
-use Rattle.backends.specs.Crossing.{part}
+use Rattle.backends.specs.Segments.{part}
 use Rattle.moments.specs.Present.{edits}
+use Rattle.moments.proofs.Columns.{edits-long, take-edits}
 use Rattle.gather.specs.Gather.{Ascends, upTo, gathered, Moves, Moved, Within, WithinDone}
-use Rattle.gather.proofs.Columns.{edits-long, take-edits}
 use Rattle.gather.proofs.Ends.{times-end, ends-bounds, ends-front, ends-past}
 use Rattle.gather.proofs.Bounds.{front-light, gathered-light, gathered-ascends}
 use Rattle.gather.proofs.Buffers.{buffer-asks, buffer-held, buffer-past}

@@ -20,7 +20,7 @@ use Rattle.grid.proofs.Sizes.{mass}
 use Rattle.grid.proofs.Sort.{Sorted}
 use Rattle.rules.specs.Histories.{Edit, timeOf, valueOf, advanceEdits}
 use Rattle.consolidation.specs.Entries.{mostMass}
-use Rattle.backends.specs.Crossing.{part}
+use Rattle.backends.specs.Segments.{part}
 use Rattle.moments.specs.Present.{edits}
 use Rattle.gather.specs.declared.Held.{Held}
 

@@ -25,7 +25,7 @@ use Rattle.rules.specs.Call.{editsOf, timesOf, pendingOf}
 use Rattle.rules.proofs.Order.{Rising, empty, then, past-above, front-passes}
 use Rattle.histories.proofs.Steps.{front-take, past-drop}
 use Rattle.edits.specs.Edits.{edits}
-use Rattle.backends.specs.Crossing.{part}
+use Rattle.backends.specs.Segments.{part}
 use Rattle.backends.proofs.Columns.{less}
 use Rattle.keys.specs.Spans.{Reaches, Spans, Within, Level}
 use Rattle.keys.specs.declared.Span.{Span}

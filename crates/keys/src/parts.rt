@@ -6,7 +6,7 @@ ghost use Prim.Native.Nat.{_+_};
 ghost use lib.Dec.{eqb, ltb};
 ghost use lib.ListN.{length, drop};
 ghost use Rattle.grid.specs.Lists.{front};
-ghost use Rattle.backends.specs.Crossing.{part};
+ghost use Rattle.backends.specs.Segments.{part};
 ghost use Rattle.keys.specs.Spans.{Spans, Within};
 
 // Where the keys below a key end, from the place `start` on.

@@ -10,7 +10,7 @@ use mathlib.Core.Path.{_≡_, refl, sym, _∙_, ap}
 use lib.Dec.{ltb}
 use lib.ListN.{length, length-append, length-map}
 use Rattle.grid.specs.Lists.{any, flat}
-use Rattle.grid.specs.Records.{Row, mostRecords}
+use Rattle.grid.specs.Records.{Row}
 use Rattle.rules.specs.Discover.{State, discover}
 use Rattle.rules.specs.Call.{Request, Done, together, changed, editsOf, timesOf, pendingOf, work, workAll, pendedAll}
 use Rattle.rules.specs.Runs.{workOf}
@@ -31,7 +31,7 @@ row-count f (k ∷ ks) =
     let b = length-append (f k .pended) (flat (λ (D : State). D .pended) (map f ks)) in
     omega (arith, a, b, length-map (f k .pended) own, row-count f ks)
 
-module _ {q : Request} {mode width : ℕ} {R : Runs} {keys : List ℕ} (g : Good R) (a : Asked q mode width R keys) where
+module _ {most : ℕ} {q : Request} {mode width : ℕ} {R : Runs} {keys : List ℕ} (g : Good most R) (a : Asked q mode width R keys) where
   abbrev input : List Row
   input = together (q .old) (q .new)
 
@@ -73,9 +73,9 @@ module _ {q : Request} {mode width : ℕ} {R : Runs} {keys : List ℕ} (g : Good
   unfolding workAll
   over-all = over-each (changed q) ∙ ap (λ ks. any (λ (D : State). D .over) (map (foundOf R) ks)) (a .keys-are)
 
-  pub asked-passed : passed q ≡ windowOver false 0 (map (foundOf R) keys)
+  pub asked-passed : passed most q ≡ windowOver most false 0 (map (foundOf R) keys)
   unfolding passed windowOver
   asked-passed =
       let o = over-all in
       let n : length (pendedAll (workAll q)) ≡ 0 + length (flat (λ (D : State). D .pended) (map (foundOf R) keys)) = omega (arith, ap length asked-pended, row-count (foundOf R) keys) in
-      λ i. o i || ltb mostRecords (n i)
+      λ i. o i || ltb most (n i)

@@ -29,9 +29,9 @@ module _ (mode : ℕ) (R : Runs) where
   longest-few [] a = omega arith
   longest-few (k ∷ ks) (cons h a) = let l = crossed-length k in let n = longest-few ks a in omega arith
 
-  pub crossings-few : (over : Bool) (n : ℕ) (ks : List ℕ) → windowOver over n (map (foundOf R) ks) ≡ false → windowCrossings mode (map (slotAt R) ks) ≤ mostMoments
+  pub crossings-few : (most : ℕ) (over : Bool) (n : ℕ) (ks : List ℕ) → windowOver most over n (map (foundOf R) ks) ≡ false → windowCrossings mode (map (slotAt R) ks) ≤ mostMoments
   unfolding windowCrossings
-  crossings-few over n ks e =
+  crossings-few most over n ks e =
       let b = window-bound (map crossed (map (slotAt R) ks)) in
-      let l = longest-few ks (each-few (foundOf R) (found-few (R .upper) _ _ _ _) over n ks e) in
+      let l = longest-few ks (each-few most (foundOf R) (found-few (R .upper) _ _ _ _) over n ks e) in
       omega arith

@@ -13,14 +13,14 @@ use lib.IntN.{ℤ}
 use lib.ListN.{length, take, drop, length-take, length-map, drop-of-length-le, take-append-drop}
 use lib.Seq.{drop-drop, length-take-le}
 use borrow.Author.Tests.{ltb-true, ltb-false, le-ltb, not-true}
-use Rattle.grid.specs.Lists.{any, flat, ascending}
-use Rattle.grid.specs.Records.{Row, rows, pairs, mostRecords, inRange}
-use Rattle.grid.proofs.Tests.{by-test, clash, and-l, and-r, or-false-r}
+use Rattle.grid.specs.Lists.{flat, ascending}
+use Rattle.grid.specs.Records.{Row, rows, pairs}
+use Rattle.grid.proofs.Tests.{by-test, clash, and-l, and-r}
 use Rattle.grid.proofs.Lists.{All, all-of, all-l}
 use Rattle.grid.proofs.Ascending.{ascending-rest}
 use Rattle.rules.specs.Discover.{mostMoments, State}
 use Rattle.rules.specs.Call.{Request, changed}
-use Rattle.backends.specs.Crossing.{part}
+use Rattle.backends.specs.Segments.{part}
 use Rattle.backends.proofs.Columns.{less}
 use Rattle.grid.proofs.Operations.{no-length}
 use Rattle.keys.specs.Spans.{Reaches, Level}
@@ -29,6 +29,7 @@ use Rattle.finding.specs.Windowed.{pendedRow, firstsOf, secondsOf, windowOver}
 use Rattle.finding.proofs.Keyed.{reaches-past}
 use Rattle.finding.proofs.Windowing.{over-append}
 use Rattle.slots.specs.Slots.{rowsTooLarge, windowRows, windowCrossings}
+use Rattle.slots.proofs.Large.{large-fits}
 use Rattle.fixing.specs.Settle.{LentFixes}
 use Rattle.settled.specs.Call.{slotOf, windowsOf, rowsOf}
 use Rattle.settled.proofs.Through.{Through, through-start, through-more, through-large, through-rows, through-count}
@@ -82,8 +83,8 @@ module _ (fk fv ft : List ℕ) (fd : List ℤ) (n : ℕ) where
   abbrev pub listed : List Row
   listed = rows (take n fk) (take n fv) (take n ft) (take n fd)
 
-rows-long : {fk fv ft : List ℕ} {fd : List ℤ} (n : ℕ) → LentFixes fk fv ft fd → n ≤ mostRecords → length (listed fk fv ft fd n) ≡ n
-rows-long {fk} {fv} {ft} {fd} n l h =
+rows-long : {most : ℕ} {fk fv ft : List ℕ} {fd : List ℤ} (n : ℕ) → LentFixes most fk fv ft fd → n ≤ most → length (listed fk fv ft fd n) ≡ n
+rows-long {fk = fk} {fv} {ft} {fd} n l h =
     let k : length (take n fk) ≡ n = length-take-le n fk (omega (arith, l .long-k)) in
     let v : length (take n fv) ≡ n = length-take-le n fv (omega (arith, l .long-v)) in
     let t : length (take n ft) ≡ n = length-take-le n ft (omega (arith, l .long-t)) in
@@ -92,36 +93,32 @@ rows-long {fk} {fv} {ft} {fd} n l h =
     sym (length-map (listed fk fv ft fd n) keyOf) ∙ ap length (rows-keys level) ∙ k
 
 -- ---- limits
-over-yet : (over : Bool) (n : ℕ) (Ds : List State) → over ≡ true → windowOver over n Ds ≡ true
+over-yet : (most : ℕ) (over : Bool) (n : ℕ) (Ds : List State) → over ≡ true → windowOver most over n Ds ≡ true
 unfolding windowOver
-over-yet over n Ds e = rw e
+over-yet most over n Ds e = rw e
 
-over-none : (n : ℕ) → n ≤ mostRecords → windowOver false n [] ≡ false
+over-none : (most n : ℕ) → n ≤ most → windowOver most false n [] ≡ false
 unfolding windowOver
-over-none n h = le-ltb mostRecords (n + 0) (omega arith)
-
-fixes-few : (n : ℕ) (rs : List Row) → rowsTooLarge n rs ≡ false → n + length rs ≤ mostRecords
-unfolding rowsTooLarge
-fixes-few n rs e = ltb-false mostRecords (n + length rs) (or-false-r (any (λ (r : Row). not (inRange (r .diff))) rs) _ e)
+over-none most n h = le-ltb most (n + 0) (omega arith)
 
 -- ---- the loop
 -- of any request whose runs these are, the corrections so far and the crossings so far are those of the windows of the keys before p
-pub record Looping (R : Runs) (mode width : ℕ) (keys nk nt fk fv ft : List ℕ) (fd : List ℤ) (p : ℕ) (w : Progress) : Type 0 where
+pub record Looping (most : ℕ) (R : Runs) (mode width : ℕ) (keys nk nt fk fv ft : List ℕ) (fd : List ℤ) (p : ℕ) (w : Progress) : Type 0 where
   pub within : p ≤ length keys
   pub reached : Reached (R .newKeys) (R .pendingKeys) (R .inKeys) (R .outKeys) (drop p keys) w
-  pub next-few : w .pended ≤ mostRecords
-  pub over-is : windowOver (w .over) (w .pended) (map (foundOf R) (drop p keys)) ≡ windowOver false 0 (map (foundOf R) keys)
+  pub next-few : w .pended ≤ most
+  pub over-is : windowOver most (w .over) (w .pended) (map (foundOf R) (drop p keys)) ≡ windowOver most false 0 (map (foundOf R) keys)
   pub next-is : w .over ≡ false → pairs (take (w .pended) nk) (take (w .pended) nt) ++ pendedRow (drop p keys) (map (foundOf R) (drop p keys)) ≡ pendedRow keys (map (foundOf R) keys)
-  pub fits : w .over ≡ false → w .large ≡ false → w .fixes ≤ mostRecords
+  pub fits : w .over ≡ false → w .large ≡ false → w .fixes ≤ most
   pub counts : w .over ≡ false → w .large ≡ false → w .crossings ≤ p * mostMoments
-  pub too-large : w .over ≡ false → w .large ≡ true → (q : Request) → Asked q mode width R keys → rowsTooLarge 0 (rowsOf q (windowsOf q (changed q))) ≡ true
-  pub through : w .over ≡ false → w .large ≡ false → (q : Request) → Asked q mode width R keys → Through q p (listed fk fv ft fd (w .fixes)) (w .crossings)
+  pub too-large : w .over ≡ false → w .large ≡ true → (q : Request) → Asked q mode width R keys → rowsTooLarge most 0 (rowsOf q (windowsOf q (changed q))) ≡ true
+  pub through : w .over ≡ false → w .large ≡ false → (q : Request) → Asked q mode width R keys → Through most q p (listed fk fv ft fd (w .fixes)) (w .crossings)
 
 abbrev pub fresh : Progress
 fresh = record { new = 0; pending = 0; input = 0; out = 0; pended = 0; fixes = 0; crossings = 0; large = false; over = false }
 
-pub looping-start : {R : Runs} (mode : ℕ) {width : ℕ} {keys : List ℕ} → Loops R width keys → (nk nt fk fv ft : List ℕ) (fd : List ℤ) → Looping R mode width keys nk nt fk fv ft fd 0 fresh
-looping-start mode {keys = keys} l nk nt fk fv ft fd =
+pub looping-start : {most : ℕ} {R : Runs} (mode : ℕ) {width : ℕ} {keys : List ℕ} → Loops most R width keys → (nk nt fk fv ft : List ℕ) (fd : List ℤ) → Looping most R mode width keys nk nt fk fv ft fd 0 fresh
+looping-start {most} mode {keys = keys} l nk nt fk fv ft fd =
     let g = l .good in
     record {
       within = omega arith;
@@ -138,10 +135,10 @@ looping-start mode {keys = keys} l nk nt fk fv ft fd =
       fits = λ _ _. omega arith;
       counts = λ _ _. omega arith;
       too-large = λ _ t. clash false t refl;
-      through = λ _ _ q a. through-start q;
+      through = λ _ _ q a. through-start most q;
     }
 
-module _ {R : Runs} {mode width : ℕ} {keys nk nt fk fv ft : List ℕ} {fd : List ℤ} {p : ℕ} {w : Progress} (L : Looping R mode width keys nk nt fk fv ft fd p w) (l : Loops R width keys) where
+module _ {most : ℕ} {R : Runs} {mode width : ℕ} {keys nk nt fk fv ft : List ℕ} {fd : List ℤ} {p : ℕ} {w : Progress} (L : Looping most R mode width keys nk nt fk fv ft fd p w) (l : Loops most R width keys) where
   module _ (goes : (not (w .over) && ltb p (length keys)) ≡ true) {e : ℕ} (e-is : e ≡ min (p + width) (length keys)) where
     abbrev window : List ℕ
     window = part p e keys
@@ -167,7 +164,7 @@ module _ {R : Runs} {mode width : ℕ} {keys nk nt fk fv ft : List ℕ} {fd : Li
     ascends-both : ascending ltb (window ++ later) ≡ true
     ascends-both = sym (ap (ascending ltb) cut-here) ∙ L .reached .ascends
 
-    pub looping-takes : Takes R window w
+    pub looping-takes : Takes most R window w
     looping-takes =
         let n : length window ≤ 64 = omega (arith, length-take (e - p) (drop p keys), l .narrow) in
         let few : length keys ≤ 8192 = l .few in
@@ -186,8 +183,8 @@ module _ {R : Runs} {mode width : ℕ} {keys nk nt fk fv ft : List ℕ} {fd : Li
           counts = λ o t. (let c : w .crossings ≤ p * 1024 = L .counts o t in let b : p < length keys = before in omega arith);
         }
 
-    module _ {nk′ nt′ fk′ fv′ ft′ : List ℕ} {fd′ : List ℤ} {r : Progress} (T : Turned R mode window w nk nt fk fv ft fd nk′ nt′ fk′ fv′ ft′ fd′ r)
-        (long-nk : length nk ≡ mostRecords) (long-nt : length nt ≡ mostRecords) (lent : LentFixes fk fv ft fd) where
+    module _ {nk′ nt′ fk′ fv′ ft′ : List ℕ} {fd′ : List ℤ} {r : Progress} (T : Turned most R mode window w nk nt fk fv ft fd nk′ nt′ fk′ fv′ ft′ fd′ r)
+        (long-nk : length nk ≡ most) (long-nt : length nt ≡ most) (lent : LentFixes most fk fv ft fd) where
       abbrev its : List State
       its = map (foundOf R) window
 
@@ -200,16 +197,16 @@ module _ {R : Runs} {mode width : ℕ} {keys nk nt fk fv ft : List ℕ} {fd : Li
       row-here : pendedRow (drop p keys) (map (foundOf R) (drop p keys)) ≡ itsRow ++ pendedRow later (map (foundOf R) later)
       row-here = ap (λ ks. pendedRow ks (map (foundOf R) ks)) cut-here ∙ row-append (foundOf R) window later
 
-      counted : windowOver (w .over) (w .pended) its ≡ false → r .pended ≡ w .pended + length (flat (λ (D : State). D .pended) its)
+      counted : windowOver most (w .over) (w .pended) its ≡ false → r .pended ≡ w .pended + length (flat (λ (D : State). D .pended) its)
       counted o =
           let n = T .next-times (T .over-is ∙ o) .end in
           omega (arith, n, length-map itsRow (λ (x : ℕ × ℕ). x .1), row-count (foundOf R) window)
 
-      over-on : windowOver (r .over) (r .pended) (map (foundOf R) later) ≡ windowOver false 0 (map (foundOf R) keys)
+      over-on : windowOver most (r .over) (r .pended) (map (foundOf R) later) ≡ windowOver most false 0 (map (foundOf R) keys)
       over-on =
-          ap (λ b. windowOver b (r .pended) (map (foundOf R) later)) (T .over-is)
-          ∙ over-append (w .over) (w .pended) (r .pended) its (map (foundOf R) later) counted
-          ∙ ap (windowOver (w .over) (w .pended)) (sym found-here) ∙ L .over-is
+          ap (λ b. windowOver most b (r .pended) (map (foundOf R) later)) (T .over-is)
+          ∙ over-append most (w .over) (w .pended) (r .pended) its (map (foundOf R) later) counted
+          ∙ ap (windowOver most (w .over) (w .pended)) (sym found-here) ∙ L .over-is
 
       next-on : r .over ≡ false → pairs (take (r .pended) nk′) (take (r .pended) nt′) ++ pendedRow later (map (foundOf R) later) ≡ pendedRow keys (map (foundOf R) keys)
       next-on o =
@@ -234,17 +231,17 @@ module _ {R : Runs} {mode width : ℕ} {keys nk nt fk fv ft : List ℕ} {fd : Li
       fitted h = by-test (w .large) (λ t. clash (r .large) (T .stays-large t) h) (λ f. f)
 
       module _ (o : r .over ≡ false) where
-        fits-on : r .large ≡ false → r .fixes ≤ mostRecords
+        fits-on : r .large ≡ false → r .fixes ≤ most
         fits-on h =
             let s = T .settles o (fitted h) in
-            let n : w .fixes + length new ≤ mostRecords = fixes-few (w .fixes) new (sym (s .listed .large-is) ∙ h) in
+            let n : w .fixes + length new ≤ most = large-fits (w .fixes) new (sym (s .listed .large-is) ∙ h) in
             omega (arith, s .listed .fixes-are h)
 
         counts-on : r .large ≡ false → r .crossings ≤ e * mostMoments
         counts-on h =
             let c : r .crossings ≡ w .crossings + crossed = T .settles o (fitted h) .crossings-are h in
             let b : w .crossings ≤ p * 1024 = L .counts under (fitted h) in
-            let m : crossed ≤ 1024 = crossings-few mode R (w .over) (w .pended) window (sym (T .over-is) ∙ o) in
+            let m : crossed ≤ 1024 = crossings-few mode R most (w .over) (w .pended) window (sym (T .over-is) ∙ o) in
             let i : p < e = (let x : p < length keys = before in let y : 1 ≤ width = l .wide in omega arith) in
             omega arith
 
@@ -274,13 +271,13 @@ module _ {R : Runs} {mode width : ℕ} {keys nk nt fk fv ft : List ℕ} {fd : Li
             soFar-long : length soFar ≡ w .fixes
             soFar-long = rows-long (w .fixes) lent (L .fits under h)
 
-            large-here : rowsTooLarge (length soFar) (windowRows (q .mode) (map (slotOf q) (part p e (changed q)))) ≡ r .large
-            large-here = (let n = soFar-long in let s = rows-here in λ i. rowsTooLarge (n i) (s i)) ∙ sym (T .settles o h .listed .large-is)
+            large-here : rowsTooLarge most (length soFar) (windowRows (q .mode) (map (slotOf q) (part p e (changed q)))) ≡ r .large
+            large-here = (let n = soFar-long in let s = rows-here in λ i. rowsTooLarge most (n i) (s i)) ∙ sym (T .settles o h .listed .large-is)
 
-            large-now : r .large ≡ true → rowsTooLarge 0 (rowsOf q (windowsOf q (changed q))) ≡ true
+            large-now : r .large ≡ true → rowsTooLarge most 0 (rowsOf q (windowsOf q (changed q))) ≡ true
             large-now t = through-large (L .through under h q a) e wide end-is inside (large-here ∙ t)
 
-            through-now : r .large ≡ false → Through q e (listed fk′ fv′ ft′ fd′ (r .fixes)) (r .crossings)
+            through-now : r .large ≡ false → Through most q e (listed fk′ fv′ ft′ fd′ (r .fixes)) (r .crossings)
             through-now t =
                 let s = T .settles o h in
                 let x : soFar ++ windowRows (q .mode) (map (slotOf q) (part p e (changed q))) ≡ listed fk′ fv′ ft′ fd′ (r .fixes) = ap (λ z. soFar ++ z) rows-here ∙ sym (s .listed .rows-are t) in
@@ -288,10 +285,10 @@ module _ {R : Runs} {mode width : ℕ} {keys nk nt fk fv ft : List ℕ} {fd : Li
                 let z = through-more (L .through under h q a) e wide end-is inside (large-here ∙ t) in
                 rw (x, y) at z
 
-          large-on : r .large ≡ true → rowsTooLarge 0 (rowsOf q (windowsOf q (changed q))) ≡ true
+          large-on : r .large ≡ true → rowsTooLarge most 0 (rowsOf q (windowsOf q (changed q))) ≡ true
           large-on t = by-test (w .large) (λ h. L .too-large under h q a) (λ h. large-now h t)
 
-      pub looping-more : Looping R mode width keys nk′ nt′ fk′ fv′ ft′ fd′ e r
+      pub looping-more : Looping most R mode width keys nk′ nt′ fk′ fv′ ft′ fd′ e r
       looping-more = record {
         within = omega (arith, before);
         reached = record {
@@ -317,11 +314,11 @@ module _ {R : Runs} {mode width : ℕ} {keys nk nt fk fv ft : List ℕ} {fd : Li
     none-left : w .over ≡ false → drop p keys ≡ []
     none-left o = drop-of-length-le keys (past o)
 
-    over-end : w .over ≡ windowOver false 0 (map (foundOf R) keys)
+    over-end : w .over ≡ windowOver most false 0 (map (foundOf R) keys)
     over-end =
         by-test (w .over)
-        (λ t. t ∙ sym (over-yet (w .over) (w .pended) (map (foundOf R) (drop p keys)) t) ∙ L .over-is)
-        (λ o. o ∙ sym (over-none (w .pended) (L .next-few)) ∙ (let e = sym o in let d = sym (none-left o) in λ i. windowOver (e i) (w .pended) (map (foundOf R) (d i))) ∙ L .over-is)
+        (λ t. t ∙ sym (over-yet most (w .over) (w .pended) (map (foundOf R) (drop p keys)) t) ∙ L .over-is)
+        (λ o. o ∙ sym (over-none most (w .pended) (L .next-few)) ∙ (let e = sym o in let d = sym (none-left o) in λ i. windowOver most (e i) (w .pended) (map (foundOf R) (d i))) ∙ L .over-is)
 
     next-end : w .over ≡ false → pairs (take (w .pended) nk) (take (w .pended) nt) ≡ pendedRow keys (map (foundOf R) keys)
     next-end o =
@@ -332,13 +329,13 @@ module _ {R : Runs} {mode width : ℕ} {keys nk nt fk fv ft : List ℕ} {fd : Li
       past-all : length (changed q) ≤ p
       past-all = omega (arith, past o, ap length (a .keys-are))
 
-      large-end : w .large ≡ rowsTooLarge 0 (rowsOf q (windowsOf q (changed q)))
+      large-end : w .large ≡ rowsTooLarge most 0 (rowsOf q (windowsOf q (changed q)))
       large-end =
           by-test (w .large)
           (λ t. t ∙ sym (L .too-large o t q a))
-          (λ h. let t = L .through o h q a in h ∙ sym (ap (rowsTooLarge 0) (sym (through-rows t past-all)) ∙ t .rows-fit))
+          (λ h. let t = L .through o h q a in h ∙ sym (ap (rowsTooLarge most 0) (sym (through-rows t past-all)) ∙ t .rows-fit))
 
-    pub looping-end : Ended R mode width keys nk nt fk fv ft fd (courseOf w)
+    pub looping-end : Ended most R mode width keys nk nt fk fv ft fd (courseOf w)
     looping-end = record {
       few-pended = L .next-few;
       few-fixes = L .fits;

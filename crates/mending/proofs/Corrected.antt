@@ -1,7 +1,7 @@
 -- A window's rounds, from the memory and the progress of a call.
 --
 -- span-steps: a cut in steps. settle-weighs: what choosing a way asks
--- corrects-asks: what the rounds ask. corrects-steps, corrects-within, corrects-short, corrects-adds: what counting them asks
+-- corrects-room: the front of result memory is long enough. corrects-asks: what the rounds ask. corrects-steps, corrects-within, corrects-short, corrects-adds: what counting them asks
 -- past p s c: a call that has come as far as p, then settled a window to s and counted c rounds
 -- corrected-left: what a window leaves whose rounds are left out. corrected-done: what it leaves after its rounds
 use Prim.Native.Nat.{ℕ, _+_, _-_, _≤_, _<_, _^_}
@@ -21,8 +21,8 @@ use Rattle.rules.specs.Histories.{Edit}
 use Rattle.rules.specs.Discover.{mostMoments}
 use Rattle.rules.specs.Retire.{Round, settle}
 use Rattle.rules.proofs.Width.{settle-length}
-use Rattle.backends.specs.Crossing.{part, segments, Cut}
-use Rattle.backends.specs.Crossing as crossing
+use Rattle.backends.specs.Segments.{part, segments, Cut}
+use Rattle.backends.specs.Segments as cuts
 use Rattle.backends.proofs.Segments.{part-length}
 use Rattle.moments.specs.Present.{edits}
 use Rattle.moments.specs.Window.{partsOf}
@@ -40,13 +40,13 @@ use Rattle.mending.specs.Corrected.{Wide, Corrects, Corrected, Weighs}
 -- ---- the longest list of moments
 module _ {l : List ℕ} where
   pub span-steps : {f : ℕ} {es : List ℕ} → Cut (λ m. length m ≤ mostMoments) l f es → Steps f es
-  span-steps crossing.done = done
-  span-steps (crossing.next {f} {e} a b p c) = next {f = f} {e = e} a (let n : length (part f e l) ≡ e - f = part-length f e l a b in omega arith) (span-steps c)
+  span-steps cuts.done = done
+  span-steps (cuts.next {f} {e} a b p c) = next {f = f} {e = e} a (let n : length (part f e l) ≡ e - f = part-length f e l a b in omega arith) (span-steps c)
 
   span-all : (m : ℕ) {f : ℕ} {es : List ℕ} → Cut (λ m. length m ≤ mostMoments) l f es → All (λ s. length s ≤ spanFrom m f es) (segments f es l)
   unfolding spanFrom segments
-  span-all m crossing.done = nil
-  span-all m (crossing.next {f} {e} {es} a b p c) =
+  span-all m cuts.done = nil
+  span-all m (cuts.next {f} {e} {es} a b p c) =
       let k : ℕ = cond (ltb m (e - f)) (e - f) m in
       let n : length (part f e l) ≡ e - f = part-length f e l a b in
       let h : k ≤ spanFrom k e es = span-least k e es in
@@ -78,7 +78,7 @@ past p s c = record {
   over = p .over;
 }
 
-pub corrected-left : {mode : ℕ} {keys : List ℕ} {is os : List (List Edit)} {ms : List (List ℕ)} {p : Progress} {fk fv ft : List ℕ} {fd : List ℤ} → (p .over || p .large) ≡ true → Corrected mode keys is os ms p p fk fv ft fd fk fv ft fd
+pub corrected-left : {most mode : ℕ} {keys : List ℕ} {is os : List (List Edit)} {ms : List (List ℕ)} {p : Progress} {fk fv ft : List ℕ} {fd : List ℤ} → (p .over || p .large) ≡ true → Corrected most mode keys is os ms p p fk fv ft fd fk fv ft fd
 corrected-left {p = p} h = record {
   new-same = refl;
   pending-same = refl;
@@ -102,14 +102,17 @@ count-is mode n {moments} {mends} keys is os {marks} c e h m =
     ∙ marked-count n (crossedBy mode ss) h (crossed-short mode n keys is os (segments 0 mends moments) a)
 
 -- ---- what is asked
-pub settle-weighs : {n : ℕ} {moments mends fs es tv tt : List ℕ} {td : List ℤ} {ofs oes xv xt : List ℕ} {xd : List ℤ} → Slotted n moments mends fs es tv tt td ofs oes xv xt xd → Weighs mends fs es ofs oes
-settle-weighs {n} {mends = mends} s =
+pub settle-weighs : {most n : ℕ} {moments mends fs es tv tt : List ℕ} {td : List ℤ} {ofs oes xv xt : List ℕ} {xd : List ℤ} → Slotted most n moments mends fs es tv tt td ofs oes xv xt xd → Weighs mends fs es ofs oes
+settle-weighs {n = n} {mends = mends} s =
     let m : length mends ≡ n = s .same-m in
     let f : n ≤ 64 = s .few in
     record { few = omega arith; steps = span-steps (s .cut-m); same-e = s .same-e ∙ sym (s .same-f); same-oe = s .same-oe ∙ sym (s .same-of) }
 
-module _ {keys moments mends fs es tv tt : List ℕ} {td : List ℤ} {ofs oes xv xt : List ℕ} {xd : List ℤ} {fk fv ft : List ℕ} {fd : List ℤ} {p : Progress}
-    (x : Corrects keys moments mends fs es tv tt td ofs oes xv xt xd fk fv ft fd p) (g : (p .over || p .large) ≡ false) where
+corrects-room : {most : ℕ} {uv ut : List ℕ} {ud : List ℤ} {iv : List ℕ} {id : List ℤ} {ov : List ℕ} {od cd : List ℤ} {res : List ℕ} → Wide most uv ut ud iv id ov od cd res → length cd ≤ length res
+corrects-room w = omega (arith, w .long-cd, w .room-few, w .room-res)
+
+module _ {most : ℕ} {keys moments mends fs es tv tt : List ℕ} {td : List ℤ} {ofs oes xv xt : List ℕ} {xd : List ℤ} {fk fv ft : List ℕ} {fd : List ℤ} {p : Progress}
+    (x : Corrects most keys moments mends fs es tv tt td ofs oes xv xt xd fk fv ft fd p) (g : (p .over || p .large) ≡ false) where
   abbrev is : List (List Edit)
   is = partsOf fs es (edits tv tt td)
 
@@ -125,22 +128,23 @@ module _ {keys moments mends fs es tv tt : List ℕ} {td : List ℤ} {ofs oes xv
   small : p .large ≡ false
   small = or-false-r (p .over) (p .large) g
 
-  slotted : Slotted (length keys) moments mends fs es tv tt td ofs oes xv xt xd
+  slotted : Slotted most (length keys) moments mends fs es tv tt td ofs oes xv xt xd
   slotted = x .slotted still
 
-  pub corrects-asks : {uv ut : List ℕ} {ud : List ℤ} {iv : List ℕ} {id : List ℤ} {ov : List ℕ} {od cd : List ℤ} {res : List ℕ} → Wide uv ut ud iv id ov od cd res
-      → Slotted (length keys) moments mends fs es tv tt td ofs oes xv xt xd × LentRounds uv ut ud iv id ov od (take (16384 - 0) res) cd (replicate 1024 0) fk fv ft fd (p .fixes)
-  corrects-asks {res = res} w =
-      let room : 20480 ≤ length res = w .room-res in (
+  pub corrects-asks : {uv ut : List ℕ} {ud : List ℤ} {iv : List ℕ} {id : List ℤ} {ov : List ℕ} {od cd : List ℤ} {res : List ℕ} → Wide most uv ut ud iv id ov od cd res
+      → Slotted most (length keys) moments mends fs es tv tt td ofs oes xv xt xd × LentRounds most uv ut ud iv id ov od (take (length cd - 0) res) cd (replicate 1024 0) fk fv ft fd (p .fixes)
+  corrects-asks {cd = cd} {res = res} w =
+      let room : length cd ≤ length res = corrects-room w in (
         slotted,
         record {
           long-uv = w .long-uv;
           long-ut = w .long-ut;
           long-ud = w .long-ud;
-          sums = record { long-iv = w .long-iv; long-ov = w .long-ov; long-id = w .long-id; long-od = w .long-od; long-cv = length-take-le (16384 - 0) res (omega arith); long-cd = w .long-cd };
+          sums = record { long-iv = w .long-iv; long-ov = w .long-ov; long-id = w .long-id; long-od = w .long-od; long-cv = length-take-le (length cd - 0) res (omega arith) ∙ sub-zero (length cd) ∙ w .long-cd; long-cd = w .long-cd };
           long-marks = length-replicate {A = ℕ} 1024 0;
           lent = x .lent;
           fits = x .fits still small;
+          room-few = w .room-few;
         },
       )
 
@@ -171,8 +175,8 @@ module _ {keys moments mends fs es tv tt : List ℕ} {td : List ℤ} {ofs oes xv
       corrects-adds = let h : c ≤ 1024 = corrects-few in let k : p .crossings < 2 ^ 60 = x .counts still small in omega arith
 
       pub corrected-done : {mode : ℕ} {s : Settled} {fk′ fv′ ft′ : List ℕ} {fd′ : List ℤ}
-          → WindowSettled mode (slotsOf keys is os ms) (p .fixes) s (replicate 1024 0) marks fk fv ft fd fk′ fv′ ft′ fd′
-          → Corrected mode keys is os ms p (past p s c) fk fv ft fd fk′ fv′ ft′ fd′
+          → WindowSettled most mode (slotsOf keys is os ms) (p .fixes) s (replicate 1024 0) marks fk fv ft fd fk′ fv′ ft′ fd′
+          → Corrected most mode keys is os ms p (past p s c) fk fv ft fd fk′ fv′ ft′ fd′
       corrected-done {mode} {s} d = record {
         new-same = refl;
         pending-same = refl;

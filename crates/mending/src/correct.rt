@@ -8,7 +8,7 @@ use progress::is_done;
 use replaying::settle_replayed;
 ghost use mathlib.Core.Path.{_≡_};
 ghost use lib.ListN.{length};
-ghost use Rattle.backends.specs.Crossing.{segments};
+ghost use Rattle.backends.specs.Segments.{segments};
 ghost use Rattle.moments.specs.Present.{edits};
 ghost use Rattle.moments.specs.Window.{partsOf};
 ghost use Rattle.slots.specs.Slots.{slotsOf};
@@ -84,8 +84,8 @@ fn settle(
     fd: &mut [i64],
     fixes: usize,
 ) -> Settled
-    requires { ⌜ Slotted (length (now keys)) (now moments) (now mends) (now from) (now to) (now tv) (now tt) (now td) (now ofrom) (now oto) (now outvalues) (now outtimes) (now outdiffs) × LentRounds (now uv) (now ut) (now ud) (now iv) (now id) (now ov) (now od) (now cv) (now cd) (now marks) (now fk) (now fv) (now ft) (now fd) fixes ⌝ }
-    ensures { λ r. ⌜ WindowSettled mode (slotsOf (now (keys .entry)) (partsOf (now (from .entry)) (now (to .entry)) (edits (now (tv .entry)) (now (tt .entry)) (now (td .entry)))) (partsOf (now (ofrom .entry)) (now (oto .entry)) (edits (now (outvalues .entry)) (now (outtimes .entry)) (now (outdiffs .entry)))) (segments 0 (now (mends .entry)) (now (moments .entry)))) fixes r (now (marks .entry)) (now (marks .exit)) (now (fk .entry)) (now (fv .entry)) (now (ft .entry)) (now (fd .entry)) (now (fk .exit)) (now (fv .exit)) (now (ft .exit)) (now (fd .exit)) ⌝ }
+    requires { ⌜ Slotted (length (now fk)) (length (now keys)) (now moments) (now mends) (now from) (now to) (now tv) (now tt) (now td) (now ofrom) (now oto) (now outvalues) (now outtimes) (now outdiffs) × LentRounds (length (now fk)) (now uv) (now ut) (now ud) (now iv) (now id) (now ov) (now od) (now cv) (now cd) (now marks) (now fk) (now fv) (now ft) (now fd) fixes ⌝ }
+    ensures { λ r. ⌜ WindowSettled (length (now (fk .entry))) mode (slotsOf (now (keys .entry)) (partsOf (now (from .entry)) (now (to .entry)) (edits (now (tv .entry)) (now (tt .entry)) (now (td .entry)))) (partsOf (now (ofrom .entry)) (now (oto .entry)) (edits (now (outvalues .entry)) (now (outtimes .entry)) (now (outdiffs .entry)))) (segments 0 (now (mends .entry)) (now (moments .entry)))) fixes r (now (marks .entry)) (now (marks .exit)) (now (fk .entry)) (now (fv .entry)) (now (ft .entry)) (now (fd .entry)) (now (fk .exit)) (now (fv .exit)) (now (ft .exit)) (now (fd .exit)) ⌝ }
 {
     if pays_to_replay(mends, from, to, ofrom, oto) {
         return settle_replayed(
@@ -185,13 +185,14 @@ pub fn correct_window(
     res: &mut [u64],
     p: Progress,
 ) -> Progress
-    requires { ⌜ Wide (now uv) (now ut) (now ud) (now iv) (now id) (now ov) (now od) (now cd) (now res) ⌝ }
-    requires { ⌜ Corrects (now keys) (now moments) (now mends) (now from) (now to) (now tv) (now tt) (now td) (now ofrom) (now oto) (now outvalues) (now outtimes) (now outdiffs) (now fk) (now fv) (now ft) (now fd) p ⌝ }
-    ensures { λ r. ⌜ Corrected mode (now (keys .entry)) (partsOf (now (from .entry)) (now (to .entry)) (edits (now (tv .entry)) (now (tt .entry)) (now (td .entry)))) (partsOf (now (ofrom .entry)) (now (oto .entry)) (edits (now (outvalues .entry)) (now (outtimes .entry)) (now (outdiffs .entry)))) (segments 0 (now (mends .entry)) (now (moments .entry))) p r (now (fk .entry)) (now (fv .entry)) (now (ft .entry)) (now (fd .entry)) (now (fk .exit)) (now (fv .exit)) (now (ft .exit)) (now (fd .exit)) ⌝ }
+    requires { ⌜ Wide (length (now fk)) (now uv) (now ut) (now ud) (now iv) (now id) (now ov) (now od) (now cd) (now res) ⌝ }
+    requires { ⌜ Corrects (length (now fk)) (now keys) (now moments) (now mends) (now from) (now to) (now tv) (now tt) (now td) (now ofrom) (now oto) (now outvalues) (now outtimes) (now outdiffs) (now fk) (now fv) (now ft) (now fd) p ⌝ }
+    ensures { λ r. ⌜ Corrected (length (now (fk .entry))) mode (now (keys .entry)) (partsOf (now (from .entry)) (now (to .entry)) (edits (now (tv .entry)) (now (tt .entry)) (now (td .entry)))) (partsOf (now (ofrom .entry)) (now (oto .entry)) (edits (now (outvalues .entry)) (now (outtimes .entry)) (now (outdiffs .entry)))) (segments 0 (now (mends .entry)) (now (moments .entry))) p r (now (fk .entry)) (now (fv .entry)) (now (ft .entry)) (now (fd .entry)) (now (fk .exit)) (now (fv .exit)) (now (ft .exit)) (now (fd .exit)) ⌝ }
 {
     if is_done(p) {
         return p;
     }
+    let long = cd.len();
     let mut marks = [0u8; 1024];
     let s = settle(
         mode,
@@ -215,7 +216,7 @@ pub fn correct_window(
         id,
         ov,
         od,
-        &mut res[0..16384],
+        &mut res[0..long],
         cd,
         &mut marks,
         fk,

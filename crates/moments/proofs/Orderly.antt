@@ -7,7 +7,6 @@ use mathlib.Core.List.{List}
 use lib.IntN.{natAbs}
 use Rattle.grid.proofs.Sizes.{mass}
 use Rattle.rules.specs.Histories.{Edit}
-use Rattle.backends.specs.Crossing as crossing
 use Rattle.moments.specs.Window.{Apart, Orderly}
 use Rattle.moments.specs.Window as window
 

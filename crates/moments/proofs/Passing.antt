@@ -18,7 +18,7 @@ use Rattle.rules.specs.Backends.{Sums}
 use Rattle.rules.specs.Retire.{seen}
 use Rattle.diffs.specs.Diffs.{modest}
 use Rattle.backends.specs.Columns.{entries, Appended}
-use Rattle.backends.specs.Crossing.{part}
+use Rattle.backends.specs.Segments.{part}
 use Rattle.backends.proofs.Columns.{all-take, all-drop, Filling, filling-start, filling-is, filling-more, filling-end}
 use Rattle.backends.proofs.Segments.{part-length}
 use Rattle.moments.specs.Present.{edits, Shows}

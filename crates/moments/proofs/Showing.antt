@@ -1,90 +1,32 @@
 -- Parts of three columns that lie apart.
 --
--- edits-values, edits-at: of three columns of one length. part-edits: a part of them
+-- seen-length: no more is seen than there are edits
 -- apart-next, parts-next: what lies apart, its first part and the others. apart-past: it begins at or past any smaller place
 -- laid-part: an orderly part is laid
-use Prim.Native.Nat.{ℕ, zero, suc, _+_, _-_, _*_, _<_, _≤_, _^_}
+use Prim.Native.Nat.{ℕ, _+_, _-_, _*_, _<_, _≤_, _^_}
 use native.Mathlib.Omega.{arith}
-use mathlib.Core.Path.{_≡_, refl, sym, _∙_, ap, subst}
-use mathlib.Core.List.{List, [], _∷_, map}
+use mathlib.Core.Path.{_≡_, sym, _∙_, subst}
+use mathlib.Core.List.{List, _∷_}
 use lib.Dec.{leb}
-use lib.IntN.{ℤ, pos, natAbs}
-use lib.ListN.{length, take, drop, getD, length-map}
+use lib.IntN.{ℤ, natAbs}
+use lib.ListN.{length, drop, getD, length-map}
 use Rattle.grid.specs.Lists.{keep}
 use Rattle.grid.specs.Times.{below}
 use Rattle.grid.proofs.Lists.{All, all-imp, all-map, keep-length}
 use Rattle.grid.proofs.Loops.{drop-more}
 use Rattle.grid.proofs.Sort.{Sorted}
 use Rattle.grid.proofs.Sizes.{mass, mass-each}
-use Rattle.grid.proofs.Operations.{no-length}
 use Rattle.rules.specs.Histories.{Edit, timeOf, valueOf}
 use Rattle.rules.specs.Retire.{seen}
 use Rattle.diffs.specs.Diffs.{modest}
-use Rattle.backends.specs.Crossing.{part}
-use Rattle.backends.proofs.Columns.{less}
+use Rattle.backends.specs.Segments.{part}
 use Rattle.backends.proofs.Segments.{part-length, consolidate-length}
 use Rattle.moments.specs.Present.{edits, Laid}
 use Rattle.moments.specs.Window.{partsOf, Apart, done, next, Orderly}
+use Rattle.moments.proofs.Columns.{edits-values, edits-diffs, part-edits}
 use Rattle.moments.proofs.Shown.{shown}
 
--- ---- three columns
-abbrev pub e₀ : Edit
-e₀ = ((0, 0), pos 0)
-
-pub edits-values : (vs ts : List ℕ) (ds : List ℤ) → length ts ≡ length vs → length ds ≡ length vs → map valueOf (edits vs ts ds) ≡ vs
-unfolding edits valueOf
-edits-values [] ts ds a b = refl
-edits-values (v ∷ vs) [] ds a b = no-length (length vs) (sym a)
-edits-values (v ∷ vs) (t ∷ ts) [] a b = no-length (length vs) (sym b)
-edits-values (v ∷ vs) (t ∷ ts) (d ∷ ds) a b = ap (λ l. v ∷ l) (edits-values vs ts ds (less a) (less b))
-
-pub edits-at : (vs ts : List ℕ) (ds : List ℤ) (i : ℕ) → length ts ≡ length vs → length ds ≡ length vs → i < length vs → getD (edits vs ts ds) i e₀ ≡ ((getD ts i 0, getD vs i 0), getD ds i (pos 0))
-unfolding edits
-edits-at [] ts ds i a b h = absurd (omega arith)
-edits-at (v ∷ vs) [] ds i a b h = no-length (length vs) (sym a)
-edits-at (v ∷ vs) (t ∷ ts) [] i a b h = no-length (length vs) (sym b)
-edits-at (v ∷ vs) (t ∷ ts) (d ∷ ds) zero a b h = refl
-edits-at (v ∷ vs) (t ∷ ts) (d ∷ ds) (suc i) a b h = edits-at vs ts ds i (less a) (less b) (omega arith)
-
--- ---- parts of three columns
-edits-no-times : (vs : List ℕ) (ds : List ℤ) → edits vs [] ds ≡ []
-unfolding edits
-edits-no-times [] ds = refl
-edits-no-times (v ∷ vs) ds = refl
-
-edits-no-diffs : (vs ts : List ℕ) → edits vs ts [] ≡ []
-unfolding edits
-edits-no-diffs [] ts = refl
-edits-no-diffs (v ∷ vs) [] = refl
-edits-no-diffs (v ∷ vs) (t ∷ ts) = refl
-
-take-edits : (n : ℕ) (vs ts : List ℕ) (ds : List ℤ) → take n (edits vs ts ds) ≡ edits (take n vs) (take n ts) (take n ds)
-unfolding edits
-take-edits zero vs ts ds = refl
-take-edits (suc n) [] ts ds = refl
-take-edits (suc n) (v ∷ vs) [] ds = refl
-take-edits (suc n) (v ∷ vs) (t ∷ ts) [] = refl
-take-edits (suc n) (v ∷ vs) (t ∷ ts) (d ∷ ds) = ap (λ l. ((t, v), d) ∷ l) (take-edits n vs ts ds)
-
-drop-edits : (n : ℕ) (vs ts : List ℕ) (ds : List ℤ) → drop n (edits vs ts ds) ≡ edits (drop n vs) (drop n ts) (drop n ds)
-unfolding edits
-drop-edits zero vs ts ds = refl
-drop-edits (suc n) [] ts ds = refl
-drop-edits (suc n) (v ∷ vs) [] ds = sym (edits-no-times (drop n vs) (drop (suc n) ds))
-drop-edits (suc n) (v ∷ vs) (t ∷ ts) [] = sym (edits-no-diffs (drop n vs) (drop n ts))
-drop-edits (suc n) (v ∷ vs) (t ∷ ts) (d ∷ ds) = drop-edits n vs ts ds
-
-pub part-edits : (f e : ℕ) (vs ts : List ℕ) (ds : List ℤ) → edits (part f e vs) (part f e ts) (part f e ds) ≡ part f e (edits vs ts ds)
-part-edits f e vs ts ds = sym (take-edits (e - f) (drop f vs) (drop f ts) (drop f ds)) ∙ ap (take (e - f)) (sym (drop-edits f vs ts ds))
-
 -- ---- a slot has no more sums than edits
-pub edits-length : (vs ts : List ℕ) (ds : List ℤ) → length (edits vs ts ds) ≤ length vs
-unfolding edits
-edits-length [] ts ds = omega arith
-edits-length (v ∷ vs) [] ds = omega arith
-edits-length (v ∷ vs) (t ∷ ts) [] = omega arith
-edits-length (v ∷ vs) (t ∷ ts) (d ∷ ds) = let h : length (edits vs ts ds) ≤ length vs = edits-length vs ts ds in omega arith
-
 pub seen-length : (t : ℕ) (es : List Edit) → length (seen t es) ≤ length es
 unfolding seen shown
 seen-length t es =
@@ -92,14 +34,6 @@ seen-length t es =
     let b : length (shown t es) ≡ length (keep (λ e. below (timeOf e) t) es) = length-map {B = ℕ × ℤ} (keep (λ e. below (timeOf e) t) es) (λ (e : Edit). (valueOf e, e .1)) in
     let c : length (keep (λ e. below (timeOf e) t) es) ≤ length es = keep-length (λ e. below (timeOf e) t) es in
     omega arith
-
-pub edits-diffs : (vs ts : List ℕ) (ds : List ℤ) → length ts ≡ length vs → length ds ≡ length vs → map (λ (e : Edit). e .1) (edits vs ts ds) ≡ ds
-unfolding edits
-edits-diffs [] ts [] a b = refl
-edits-diffs [] ts (d ∷ ds) a b = no-length (length ds) b
-edits-diffs (v ∷ vs) [] ds a b = no-length (length vs) (sym a)
-edits-diffs (v ∷ vs) (t ∷ ts) [] a b = no-length (length vs) (sym b)
-edits-diffs (v ∷ vs) (t ∷ ts) (d ∷ ds) a b = ap (λ l. d ∷ l) (edits-diffs vs ts ds (less a) (less b))
 
 -- ---- parts that lie apart
 module _ {A : Type 0} {P : List A → Type 0} {l : List A} where

@@ -11,7 +11,7 @@ use lib.ListN.{length}
 use Rattle.grid.proofs.Sort.{Sorted}
 use Rattle.grid.proofs.Sizes.{mass}
 use Rattle.rules.specs.Histories.{Edit, valueOf}
-use Rattle.backends.specs.Crossing.{part}
+use Rattle.backends.specs.Segments.{part}
 
 module _ {A : Type 0} where
   unfoldable pub partsOf : List ℕ → List ℕ → List A → List (List A)

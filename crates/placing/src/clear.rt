@@ -5,7 +5,7 @@ ghost use mathlib.Core.List.{[], _∷_};
 ghost use mathlib.Core.Path.{_≡_};
 ghost use Rattle.placing.specs.Parts.{Zeros, emptied, emptiedDiffs};
 
-pub fn clear_three(a: &mut [u64], b: &mut [u64], c: &mut [u64])
+fn clear_three(a: &mut [u64], b: &mut [u64], c: &mut [u64])
     ensures { λ _. ⌜ now (a .exit) ∷ now (b .exit) ∷ now (c .exit) ∷ [] ≡ emptied (now (a .entry) ∷ now (b .entry) ∷ now (c .entry) ∷ []) ⌝ }
 {
     clear(a);

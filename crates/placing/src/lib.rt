@@ -6,7 +6,6 @@ mod memory;
 mod place;
 
 pub use clear::clear_results;
-pub use clear::clear_three;
 pub use clear::clear_work;
 pub use columns::gather_column;
 pub use lists::next_frontier;

@@ -44,24 +44,24 @@ settle-merged : (mode : ℕ) (i o : List Edit) (t : ℕ) (c : Sums) (ts : List �
 unfolding merged
 settle-merged mode i o t c ts = settle-alike mode ts (all-of (seen-refl i) ts) (all-of (λ q. seen-sym (sorted-seen byValue (o ++ dated t c) q)) ts)
 
-pub record Going (mode key : ℕ) (moments vs ts : List ℕ) (ds : List ℤ) (n : ℕ) (uv₀ ut₀ : List ℕ) (ud₀ : List ℤ) (iv₀ : List ℕ) (id₀ : List ℤ) (ov₀ : List ℕ) (od₀ : List ℤ) (cv₀ : List ℕ) (cd₀ : List ℤ) (marks₀ fk₀ fv₀ ft₀ : List ℕ) (fd₀ : List ℤ) (fixes : ℕ)
+pub record Going (most mode key : ℕ) (moments vs ts : List ℕ) (ds : List ℤ) (n : ℕ) (uv₀ ut₀ : List ℕ) (ud₀ : List ℤ) (iv₀ : List ℕ) (id₀ : List ℤ) (ov₀ : List ℕ) (od₀ : List ℤ) (cv₀ : List ℕ) (cd₀ : List ℤ) (marks₀ fk₀ fv₀ ft₀ : List ℕ) (fd₀ : List ℤ) (fixes : ℕ)
     (uv ut : List ℕ) (ud : List ℤ) (iv : List ℕ) (id : List ℤ) (ov : List ℕ) (od : List ℤ) (cv : List ℕ) (cd : List ℤ) (marks fk fv ft : List ℕ) (fd : List ℤ) (j u k : ℕ) (large : Bool) : Type 0 where
-  pub asks : KeyAsks moments vs ts ds n uv₀ ut₀ ud₀ iv₀ id₀ ov₀ od₀ cv₀ cd₀ marks₀ fk₀ fv₀ ft₀ fd₀ fixes
-  pub long-uv : length uv ≡ 8192
-  pub long-ut : length ut ≡ 8192
-  pub long-ud : length ud ≡ 8192
-  pub sums : LentSums iv ov id od cv cd
-  pub lent : LentFixes fk fv ft fd
+  pub asks : KeyAsks most moments vs ts ds n uv₀ ut₀ ud₀ iv₀ id₀ ov₀ od₀ cv₀ cd₀ marks₀ fk₀ fv₀ ft₀ fd₀ fixes
+  pub long-uv : length uv ≡ most + most
+  pub long-ut : length ut ≡ most + most
+  pub long-ud : length ud ≡ most + most
+  pub sums : LentSums most iv ov id od cv cd
+  pub lent : LentFixes most fk fv ft fd
   pub rest : List Round
   pub rest-is : large ≡ false → rest ≡ settle mode (edits vs ts ds) (take u (edits uv ut ud)) (drop j moments)
-  pub left : Left key (settle mode (edits vs ts ds) (take n (edits uv₀ ut₀ ud₀)) moments) rest j fixes k large marks₀ marks fk₀ fv₀ ft₀ fd₀ fk fv ft fd
-  pub within : large ≡ false → u ≤ mostRecords + k
+  pub left : Left most key (settle mode (edits vs ts ds) (take n (edits uv₀ ut₀ ud₀)) moments) rest j fixes k large marks₀ marks fk₀ fv₀ ft₀ fd₀ fk fv ft fd
+  pub within : large ≡ false → u ≤ most + k
   pub orderly : large ≡ false → Orderly (mostRecords + k) (take u (edits uv ut ud))
 
-pub going-start : (mode key : ℕ) {moments vs ts : List ℕ} {ds : List ℤ} {n : ℕ} {uv ut : List ℕ} {ud : List ℤ} {iv : List ℕ} {id : List ℤ} {ov : List ℕ} {od : List ℤ} {cv : List ℕ} {cd : List ℤ} {marks fk fv ft : List ℕ} {fd : List ℤ} {fixes : ℕ}
-    → KeyAsks moments vs ts ds n uv ut ud iv id ov od cv cd marks fk fv ft fd fixes
-    → Going mode key moments vs ts ds n uv ut ud iv id ov od cv cd marks fk fv ft fd fixes uv ut ud iv id ov od cv cd marks fk fv ft fd 0 n fixes false
-going-start mode key {moments} {vs} {ts} {ds} {n} {uv} {ut} {ud} {fixes = fixes} x = record {
+pub going-start : {most : ℕ} (mode key : ℕ) {moments vs ts : List ℕ} {ds : List ℤ} {n : ℕ} {uv ut : List ℕ} {ud : List ℤ} {iv : List ℕ} {id : List ℤ} {ov : List ℕ} {od : List ℤ} {cv : List ℕ} {cd : List ℤ} {marks fk fv ft : List ℕ} {fd : List ℤ} {fixes : ℕ}
+    → KeyAsks most moments vs ts ds n uv ut ud iv id ov od cv cd marks fk fv ft fd fixes
+    → Going most mode key moments vs ts ds n uv ut ud iv id ov od cv cd marks fk fv ft fd fixes uv ut ud iv id ov od cv cd marks fk fv ft fd 0 n fixes false
+going-start {most} mode key {moments} {vs} {ts} {ds} {n} {uv} {ut} {ud} {fixes = fixes} x = record {
   asks = x;
   long-uv = x .memory .long-uv;
   long-ut = x .memory .long-ut;
@@ -71,13 +71,13 @@ going-start mode key {moments} {vs} {ts} {ds} {n} {uv} {ut} {ud} {fixes = fixes}
   rest = settle mode (edits vs ts ds) (take n (edits uv ut ud)) moments;
   rest-is = λ h. refl;
   left = left-start (x .memory .fits);
-  within = λ h. (let w : n ≤ 4096 = x .within in omega arith);
+  within = λ h. (let w : n ≤ most = x .within in omega arith);
   orderly = λ h. orderly-more (omega arith) (x .output);
 }
 
-module _ {mode key : ℕ} {moments vs ts : List ℕ} {ds : List ℤ} {n : ℕ} {uv₀ ut₀ : List ℕ} {ud₀ : List ℤ} {iv₀ : List ℕ} {id₀ : List ℤ} {ov₀ : List ℕ} {od₀ : List ℤ} {cv₀ : List ℕ} {cd₀ : List ℤ} {marks₀ fk₀ fv₀ ft₀ : List ℕ} {fd₀ : List ℤ} {fixes : ℕ}
+module _ {most mode key : ℕ} {moments vs ts : List ℕ} {ds : List ℤ} {n : ℕ} {uv₀ ut₀ : List ℕ} {ud₀ : List ℤ} {iv₀ : List ℕ} {id₀ : List ℤ} {ov₀ : List ℕ} {od₀ : List ℤ} {cv₀ : List ℕ} {cd₀ : List ℤ} {marks₀ fk₀ fv₀ ft₀ : List ℕ} {fd₀ : List ℤ} {fixes : ℕ}
     {uv ut : List ℕ} {ud : List ℤ} {iv : List ℕ} {id : List ℤ} {ov : List ℕ} {od : List ℤ} {cv : List ℕ} {cd : List ℤ} {marks fk fv ft : List ℕ} {fd : List ℤ} {j u k : ℕ} {large : Bool}
-    (g : Going mode key moments vs ts ds n uv₀ ut₀ ud₀ iv₀ id₀ ov₀ od₀ cv₀ cd₀ marks₀ fk₀ fv₀ ft₀ fd₀ fixes uv ut ud iv id ov od cv cd marks fk fv ft fd j u k large) where
+    (g : Going most mode key moments vs ts ds n uv₀ ut₀ ud₀ iv₀ id₀ ov₀ od₀ cv₀ cd₀ marks₀ fk₀ fv₀ ft₀ fd₀ fixes uv ut ud iv id ov od cv cd marks fk fv ft fd j u k large) where
   abbrev input : List Edit
   input = edits vs ts ds
 
@@ -111,8 +111,11 @@ module _ {mode key : ℕ} {moments vs ts : List ℕ} {ds : List ℤ} {n : ℕ} {
     open-yet : large ≡ false
     open-yet = not-true large (and-l (not large) (ltb j (length moments)) e)
 
-    pub going-asks : TurnAsks vs ts ds u uv ut ud iv id ov od cv cd fk fv ft fd k
-    going-asks = record {
+    room : length fk ≡ most
+    room = g .lent .long-k
+
+    pub going-asks : TurnAsks (length fk) vs ts ds u uv ut ud iv id ov od cv cd fk fv ft fd k
+    going-asks = subst (λ (w : ℕ). TurnAsks w vs ts ds u uv ut ud iv id ov od cv cd fk fv ft fd k) (sym room) (record {
       same-t = g .asks .same-t;
       same-d = g .asks .same-d;
       short = g .asks .short;
@@ -125,7 +128,8 @@ module _ {mode key : ℕ} {moments vs ts : List ℕ} {ds : List ℤ} {n : ℕ} {
       sums = g .sums;
       lent = g .lent;
       fits = g .left .fits open-yet;
-    }
+      room-few = g .asks .memory .room-few;
+    })
 
     abbrev t : ℕ
     t = getD moments j 0
@@ -139,29 +143,32 @@ module _ {mode key : ℕ} {moments vs ts : List ℕ} {ds : List ℤ} {n : ℕ} {
     split : g .rest ≡ x ∷ later
     split = g .rest-is open-yet ∙ ap (settle mode input output) (drop-more moments j 0 going-in) ∙ settle-next mode input output t (drop (j + 1) moments)
 
-    left-now : Left key all (x ∷ later) j fixes k false marks₀ marks fk₀ fv₀ ft₀ fd₀ fk fv ft fd
+    left-now : Left most key all (x ∷ later) j fixes k false marks₀ marks fk₀ fv₀ ft₀ fd₀ fk fv ft fd
     left-now =
-        subst (λ (l : List Round). Left key all l j fixes k false marks₀ marks fk₀ fv₀ ft₀ fd₀ fk fv ft fd) split
-        (subst (λ (b : Bool). Left key all (g .rest) j fixes k b marks₀ marks fk₀ fv₀ ft₀ fd₀ fk fv ft fd) open-yet (g .left))
+        subst (λ (l : List Round). Left most key all l j fixes k false marks₀ marks fk₀ fv₀ ft₀ fd₀ fk fv ft fd) split
+        (subst (λ (b : Bool). Left most key all (g .rest) j fixes k b marks₀ marks fk₀ fv₀ ft₀ fd₀ fk fv ft fd) open-yet (g .left))
 
-    module _ {r : Turn} {uv′ ut′ : List ℕ} {ud′ : List ℤ} {fk′ fv′ ft′ : List ℕ} {fd′ : List ℤ} (d : TurnDone mode key t input output u k r uv′ ut′ ud′ fk fv ft fd fk′ fv′ ft′ fd′)
-        {marks′ : List ℕ} (m : marks′ ≡ markedAt (r .crossed) j marks) {iv′ : List ℕ} {id′ : List ℤ} {ov′ : List ℕ} {od′ : List ℤ} {cv′ : List ℕ} {cd′ : List ℤ}
-        (luv : length uv′ ≡ length uv) (lut : length ut′ ≡ length ut) (lud : length ud′ ≡ length ud) (liv : length iv′ ≡ length iv) (lid : length id′ ≡ length id) (lov : length ov′ ≡ length ov) (lod : length od′ ≡ length od)
-        (lcv : length cv′ ≡ length cv) (lcd : length cd′ ≡ length cd) (lfk : length fk′ ≡ length fk) (lfv : length fv′ ≡ length fv) (lft : length ft′ ≡ length ft) (lfd : length fd′ ≡ length fd) where
-      pub going-more : Going mode key moments vs ts ds n uv₀ ut₀ ud₀ iv₀ id₀ ov₀ od₀ cv₀ cd₀ marks₀ fk₀ fv₀ ft₀ fd₀ fixes uv′ ut′ ud′ iv′ id′ ov′ od′ cv′ cd′ marks′ fk′ fv′ ft′ fd′ (j + 1) (r .output) (r .fixes) (r .large)
-      going-more = record {
-        asks = g .asks;
-        long-uv = luv ∙ g .long-uv;
-        long-ut = lut ∙ g .long-ut;
-        long-ud = lud ∙ g .long-ud;
-        sums = record { long-iv = liv ∙ g .sums .long-iv; long-ov = lov ∙ g .sums .long-ov; long-id = lid ∙ g .sums .long-id; long-od = lod ∙ g .sums .long-od; long-cv = lcv ∙ g .sums .long-cv; long-cd = lcd ∙ g .sums .long-cd };
-        lent = record { long-k = lfk ∙ g .lent .long-k; long-v = lfv ∙ g .lent .long-v; long-t = lft ∙ g .lent .long-t; long-d = lfd ∙ g .lent .long-d };
-        rest = later;
-        rest-is = λ h. settle-merged mode input output t (x .fixes) (drop (j + 1) moments) ∙ ap (λ (es : List Edit). settle mode input es (drop (j + 1) moments)) (sym (d .output-is h));
-        left = left-more left-now (d .listed) going-mark (m ∙ ap (λ (b : Bool). markedAt b j marks) (d .crossed-is)) refl;
-        within = d .within;
-        orderly = d .orderly;
-      }
+    module _ {r : Turn} {uv′ ut′ : List ℕ} {ud′ : List ℤ} {fk′ fv′ ft′ : List ℕ} {fd′ : List ℤ} (d₀ : TurnDone (length fk) mode key t input output u k r uv′ ut′ ud′ fk fv ft fd fk′ fv′ ft′ fd′) where
+      d : TurnDone most mode key t input output u k r uv′ ut′ ud′ fk fv ft fd fk′ fv′ ft′ fd′
+      d = subst (λ (w : ℕ). TurnDone w mode key t input output u k r uv′ ut′ ud′ fk fv ft fd fk′ fv′ ft′ fd′) room d₀
+
+      module _ {marks′ : List ℕ} (m : marks′ ≡ markedAt (r .crossed) j marks) {iv′ : List ℕ} {id′ : List ℤ} {ov′ : List ℕ} {od′ : List ℤ} {cv′ : List ℕ} {cd′ : List ℤ}
+          (luv : length uv′ ≡ length uv) (lut : length ut′ ≡ length ut) (lud : length ud′ ≡ length ud) (liv : length iv′ ≡ length iv) (lid : length id′ ≡ length id) (lov : length ov′ ≡ length ov) (lod : length od′ ≡ length od)
+          (lcv : length cv′ ≡ length cv) (lcd : length cd′ ≡ length cd) (lfk : length fk′ ≡ length fk) (lfv : length fv′ ≡ length fv) (lft : length ft′ ≡ length ft) (lfd : length fd′ ≡ length fd) where
+        pub going-more : Going most mode key moments vs ts ds n uv₀ ut₀ ud₀ iv₀ id₀ ov₀ od₀ cv₀ cd₀ marks₀ fk₀ fv₀ ft₀ fd₀ fixes uv′ ut′ ud′ iv′ id′ ov′ od′ cv′ cd′ marks′ fk′ fv′ ft′ fd′ (j + 1) (r .output) (r .fixes) (r .large)
+        going-more = record {
+          asks = g .asks;
+          long-uv = luv ∙ g .long-uv;
+          long-ut = lut ∙ g .long-ut;
+          long-ud = lud ∙ g .long-ud;
+          sums = record { long-iv = liv ∙ g .sums .long-iv; long-ov = lov ∙ g .sums .long-ov; long-id = lid ∙ g .sums .long-id; long-od = lod ∙ g .sums .long-od; long-cv = lcv ∙ g .sums .long-cv; long-cd = lcd ∙ g .sums .long-cd };
+          lent = record { long-k = lfk ∙ g .lent .long-k; long-v = lfv ∙ g .lent .long-v; long-t = lft ∙ g .lent .long-t; long-d = lfd ∙ g .lent .long-d };
+          rest = later;
+          rest-is = λ h. settle-merged mode input output t (x .fixes) (drop (j + 1) moments) ∙ ap (λ (es : List Edit). settle mode input es (drop (j + 1) moments)) (sym (d .output-is h));
+          left = left-more left-now (d .listed) going-mark (m ∙ ap (λ (b : Bool). markedAt b j marks) (d .crossed-is)) refl;
+          within = d .within;
+          orderly = d .orderly;
+        }
 
   pub going-kept : (length uv ≡ length uv₀) × ((length ut ≡ length ut₀) × ((length ud ≡ length ud₀) × ((length iv ≡ length iv₀) × ((length id ≡ length id₀) × ((length ov ≡ length ov₀) × ((length od ≡ length od₀) × ((length cv ≡ length cv₀) × ((length cd ≡ length cd₀) × ((length marks ≡ length marks₀) × ((length fk ≡ length fk₀) × ((length fv ≡ length fv₀) × ((length ft ≡ length ft₀) × (length fd ≡ length fd₀)))))))))))))
   going-kept =
@@ -174,5 +181,5 @@ module _ {mode key : ℕ} {moments vs ts : List ℕ} {ds : List ℤ} {n : ℕ} {
         let k : length moments ≤ j = ltb-false j (length moments) (goes-now large (ltb j (length moments)) h ∙ e) in
         g .rest-is h ∙ ap (settle mode input output) (drop-of-length-le moments {i = j} k) ∙ settle-none mode input output
 
-    pub going-end : KeySettled mode key input (take n (edits uv₀ ut₀ ud₀)) moments fixes (record { fixes = k; large = large }) marks₀ marks fk₀ fv₀ ft₀ fd₀ fk fv ft fd
+    pub going-end : KeySettled most mode key input (take n (edits uv₀ ut₀ ud₀)) moments fixes (record { fixes = k; large = large }) marks₀ marks fk₀ fv₀ ft₀ fd₀ fk fv ft fd
     going-end = record { listed = left-end (g .left) none-left; marks-are = left-marks (g .left) none-left }

@@ -6,8 +6,8 @@
 use Prim.Native.Nat.{ℕ, _+_, _-_, _*_, _<_, _≤_, _^_}
 use native.Mathlib.Omega.{arith}
 use mathlib.Core.Bool.{true}
-use mathlib.Core.Path.{_≡_, refl, sym, _∙_, ap, subst}
-use mathlib.Core.List.{List, [], _∷_, _++_, map, append-nil}
+use mathlib.Core.Path.{_≡_, sym, _∙_, ap, subst}
+use mathlib.Core.List.{List, [], _++_, map, append-nil}
 use lib.Dec.{leb, ltb}
 use lib.IntN.{ℤ, natAbs}
 use lib.ListN.{length, take, drop, length-map, length-append, length-take}
@@ -26,7 +26,7 @@ use Rattle.backends.specs.Columns.{entries, valuesOf, Column}
 use Rattle.backends.proofs.Columns.{length-entries}
 use Rattle.moments.specs.Present.{edits}
 use Rattle.moments.specs.Window.{Orderly}
-use Rattle.moments.proofs.Showing.{edits-values, part-edits}
+use Rattle.moments.proofs.Columns.{edits-values, edits-append, edits-of, front-edits}
 use Rattle.rounds.specs.Merges.{byValue, merged, Merges, Rows}
 use Rattle.rounds.proofs.Mixing.{sorted-of, merged-sorted, merged-mass}
 use Rattle.plain.specs.Plain.{MergesBack, MergedBack}
@@ -55,29 +55,25 @@ merged-orderly {n} {m} o t c k h a = record {
 
 -- ---- the merge, and the copies
 edits-over : (w : List Edit) (vs ts : List ℕ) (ds : List ℤ) → edits (map valueOf w ++ vs) (map timeOf w ++ ts) (map (λ (e : Edit). e .1) w ++ ds) ≡ w ++ edits vs ts ds
-unfolding edits valueOf timeOf
-edits-over [] vs ts ds = refl
-edits-over (e ∷ w) vs ts ds = ap (λ l. e ∷ l) (edits-over w vs ts ds)
+edits-over w vs ts ds =
+    edits-append (map valueOf w) (map timeOf w) (map (λ (e : Edit). e .1) w) vs ts ds (length-map w timeOf ∙ sym (length-map w valueOf)) (length-map w (λ (e : Edit). e .1) ∙ sym (length-map w valueOf))
+    ∙ ap (λ l. l ++ edits vs ts ds) (edits-of w)
 
 front : {A : Type 0} {before new after : List A} {r : ℕ} → Column before 0 new after r → take (r - 0) after ≡ new
 front {after = after} {r} c = let e : r - 0 ≡ r = omega arith in ap (λ i. take i after) e ∙ c .front
 
-pub front-edits : (n : ℕ) (vs ts : List ℕ) (ds : List ℤ) → edits (take (n - 0) vs) (take (n - 0) ts) (take (n - 0) ds) ≡ take n (edits vs ts ds)
-front-edits n vs ts ds = let e : n - 0 ≡ n = omega arith in part-edits 0 n vs ts ds ∙ ap (λ i. take i (edits vs ts ds)) e
-
 module _ {n : ℕ} {cv : List ℕ} {cd : List ℤ} {uv ut : List ℕ} {ud : List ℤ} {yv yt : List ℕ} {yd : List ℤ} (a : MergesBack n cv cd uv ut ud yv yt yd) where
   back-within : (n ≤ length uv) × ((n ≤ length ut) × (n ≤ length ud))
   back-within =
-      let r : n + length cv ≤ 8192 = a .room in
-      let v : length uv ≡ 8192 = a .long-uv in
-      let t : length ut ≡ 8192 = a .long-ut in
-      let d : length ud ≡ 8192 = a .long-ud in
+      let r : n + length cv ≤ length uv = a .room in
+      let t : length ut ≡ length uv = a .long-ut in
+      let d : length ud ≡ length uv = a .long-ud in
       (omega arith, (omega arith, omega arith))
 
   pub back-asks : Merges (take (n - 0) uv) (take (n - 0) ut) (take (n - 0) ud) cv cd yv yt yd 0
   back-asks =
-      let r : n + length cv ≤ 8192 = a .room in
-      let y : length yv ≡ 8192 = a .long-yv in
+      let r : n + length cv ≤ length uv = a .room in
+      let y : length yv ≡ length uv = a .long-yv in
       let v : length (take (n - 0) uv) ≡ n - 0 = length-take-le (n - 0) uv (let h : n ≤ length uv = back-within .0 in omega arith) in
       let t : length (take (n - 0) ut) ≡ n - 0 = length-take-le (n - 0) ut (let h : n ≤ length ut = back-within .1 .0 in omega arith) in
       let d : length (take (n - 0) ud) ≡ n - 0 = length-take-le (n - 0) ud (let h : n ≤ length ud = back-within .1 .1 in omega arith) in
@@ -102,20 +98,19 @@ module _ {n : ℕ} {cv : List ℕ} {cd : List ℤ} {uv ut : List ℕ} {ud : List
     count : m ≡ length w
     count = let e : m ≡ 0 + length (map valueOf w) = r .values .end in let l : length (map valueOf w) ≡ length w = length-map w valueOf in omega arith
 
-    long : length w ≤ 8192
+    long : length w ≤ length uv
     long =
         let l : length w ≡ length (take n (edits uv ut ud)) + length (entries cv cd) = merged-length (take n (edits uv ut ud)) t (entries cv cd) in
         let c : length (entries cv cd) ≡ length cv = length-entries cv cd (a .same-cd) in
         let s : length (take n (edits uv ut ud)) ≤ n = rw length-take (omega arith) in
-        let k : n + length cv ≤ 8192 = a .room in
+        let k : n + length cv ≤ length uv = a .room in
         omega arith
 
     pub back-room : (length (take (m - 0) yv′) ≤ length uv) × ((length (take (m - 0) yt′) ≤ length ut) × (length (take (m - 0) yd′) ≤ length ud))
     back-room =
-        let l : length w ≤ 8192 = long in
-        let v : length uv ≡ 8192 = a .long-uv in
-        let t : length ut ≡ 8192 = a .long-ut in
-        let d : length ud ≡ 8192 = a .long-ud in
+        let l : length w ≤ length uv = long in
+        let t : length ut ≡ length uv = a .long-ut in
+        let d : length ud ≡ length uv = a .long-ud in
         let nv : length (take (m - 0) yv′) ≡ length w = ap length (front (r .values)) ∙ length-map w valueOf in
         let nt : length (take (m - 0) yt′) ≡ length w = ap length (front (r .times)) ∙ length-map w timeOf in
         let nd : length (take (m - 0) yd′) ≡ length w = ap length (front (r .diffs)) ∙ length-map w (λ (e : Edit). e .1) in

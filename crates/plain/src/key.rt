@@ -5,7 +5,7 @@ use marks::mark;
 use progress::goes_on;
 use times::KeyHash;
 use times::PackedTime;
-ghost use lib.ListN.{take};
+ghost use lib.ListN.{length, take};
 ghost use Rattle.moments.specs.Present.{edits};
 ghost use Rattle.fixing.specs.Settle.{KeySettled};
 ghost use Rattle.plain.specs.Plain.{KeyAsks};
@@ -35,8 +35,8 @@ pub fn rounds_plainly(
     fd: &mut [i64],
     fixes: usize,
 ) -> Settled
-    requires { ⌜ KeyAsks (now moments) (now values) (now times) (now diffs) n (now uv) (now ut) (now ud) (now iv) (now id) (now ov) (now od) (now cv) (now cd) (now marks) (now fk) (now fv) (now ft) (now fd) fixes ⌝ }
-    ensures { λ r. ⌜ KeySettled mode (key .0) (edits (now (values .entry)) (now (times .entry)) (now (diffs .entry))) (take n (edits (now (uv .entry)) (now (ut .entry)) (now (ud .entry)))) (now (moments .entry)) fixes r (now (marks .entry)) (now (marks .exit)) (now (fk .entry)) (now (fv .entry)) (now (ft .entry)) (now (fd .entry)) (now (fk .exit)) (now (fv .exit)) (now (ft .exit)) (now (fd .exit)) ⌝ }
+    requires { ⌜ KeyAsks (length (now fk)) (now moments) (now values) (now times) (now diffs) n (now uv) (now ut) (now ud) (now iv) (now id) (now ov) (now od) (now cv) (now cd) (now marks) (now fk) (now fv) (now ft) (now fd) fixes ⌝ }
+    ensures { λ r. ⌜ KeySettled (length (now (fk .entry))) mode (key .0) (edits (now (values .entry)) (now (times .entry)) (now (diffs .entry))) (take n (edits (now (uv .entry)) (now (ut .entry)) (now (ud .entry)))) (now (moments .entry)) fixes r (now (marks .entry)) (now (marks .exit)) (now (fk .entry)) (now (fv .entry)) (now (ft .entry)) (now (fd .entry)) (now (fk .exit)) (now (fv .exit)) (now (ft .exit)) (now (fd .exit)) ⌝ }
 {
     let mut j = 0;
     let mut u = n;

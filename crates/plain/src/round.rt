@@ -5,7 +5,7 @@ use fixing::settle_moment;
 use moments::present;
 use times::KeyHash;
 use times::PackedTime;
-ghost use lib.ListN.{take};
+ghost use lib.ListN.{length, take};
 ghost use Rattle.moments.specs.Present.{edits};
 ghost use Rattle.plain.specs.Plain.{TurnAsks, TurnDone};
 
@@ -34,8 +34,8 @@ pub fn turn_plainly(
     fd: &mut [i64],
     fixes: usize,
 ) -> Turn
-    requires { ⌜ TurnAsks (now values) (now times) (now diffs) n (now uv) (now ut) (now ud) (now iv) (now id) (now ov) (now od) (now cv) (now cd) (now fk) (now fv) (now ft) (now fd) fixes ⌝ }
-    ensures { λ r. ⌜ TurnDone mode (key .0) (t .0) (edits (now (values .entry)) (now (times .entry)) (now (diffs .entry))) (take n (edits (now (uv .entry)) (now (ut .entry)) (now (ud .entry)))) n fixes r (now (uv .exit)) (now (ut .exit)) (now (ud .exit)) (now (fk .entry)) (now (fv .entry)) (now (ft .entry)) (now (fd .entry)) (now (fk .exit)) (now (fv .exit)) (now (ft .exit)) (now (fd .exit)) ⌝ }
+    requires { ⌜ TurnAsks (length (now fk)) (now values) (now times) (now diffs) n (now uv) (now ut) (now ud) (now iv) (now id) (now ov) (now od) (now cv) (now cd) (now fk) (now fv) (now ft) (now fd) fixes ⌝ }
+    ensures { λ r. ⌜ TurnDone (length (now (fk .entry))) mode (key .0) (t .0) (edits (now (values .entry)) (now (times .entry)) (now (diffs .entry))) (take n (edits (now (uv .entry)) (now (ut .entry)) (now (ud .entry)))) n fixes r (now (uv .exit)) (now (ut .exit)) (now (ud .exit)) (now (fk .entry)) (now (fv .entry)) (now (ft .entry)) (now (fd .entry)) (now (fk .exit)) (now (fv .exit)) (now (ft .exit)) (now (fd .exit)) ⌝ }
 {
     let a = present(values, times, diffs, t, iv, id, 0);
     let b = present(&uv[0..n], &ut[0..n], &ud[0..n], t, ov, od, 0);

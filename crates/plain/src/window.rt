@@ -5,7 +5,7 @@ use progress::goes_on;
 use rounds::append_edits;
 use times::KeyHash;
 ghost use lib.ListN.{length};
-ghost use Rattle.backends.specs.Crossing.{segments};
+ghost use Rattle.backends.specs.Segments.{segments};
 ghost use Rattle.moments.specs.Present.{edits};
 ghost use Rattle.moments.specs.Window.{partsOf};
 ghost use Rattle.slots.specs.Slots.{slotsOf};
@@ -44,8 +44,8 @@ pub fn settle_plainly(
     fd: &mut [i64],
     fixes: usize,
 ) -> Settled
-    requires { ⌜ Slotted (length (now keys)) (now moments) (now mends) (now from) (now to) (now tv) (now tt) (now td) (now ofrom) (now oto) (now outvalues) (now outtimes) (now outdiffs) × LentRounds (now uv) (now ut) (now ud) (now iv) (now id) (now ov) (now od) (now cv) (now cd) (now marks) (now fk) (now fv) (now ft) (now fd) fixes ⌝ }
-    ensures { λ r. ⌜ WindowSettled mode (slotsOf (now (keys .entry)) (partsOf (now (from .entry)) (now (to .entry)) (edits (now (tv .entry)) (now (tt .entry)) (now (td .entry)))) (partsOf (now (ofrom .entry)) (now (oto .entry)) (edits (now (outvalues .entry)) (now (outtimes .entry)) (now (outdiffs .entry)))) (segments 0 (now (mends .entry)) (now (moments .entry)))) fixes r (now (marks .entry)) (now (marks .exit)) (now (fk .entry)) (now (fv .entry)) (now (ft .entry)) (now (fd .entry)) (now (fk .exit)) (now (fv .exit)) (now (ft .exit)) (now (fd .exit)) ⌝ }
+    requires { ⌜ Slotted (length (now fk)) (length (now keys)) (now moments) (now mends) (now from) (now to) (now tv) (now tt) (now td) (now ofrom) (now oto) (now outvalues) (now outtimes) (now outdiffs) × LentRounds (length (now fk)) (now uv) (now ut) (now ud) (now iv) (now id) (now ov) (now od) (now cv) (now cd) (now marks) (now fk) (now fv) (now ft) (now fd) fixes ⌝ }
+    ensures { λ r. ⌜ WindowSettled (length (now (fk .entry))) mode (slotsOf (now (keys .entry)) (partsOf (now (from .entry)) (now (to .entry)) (edits (now (tv .entry)) (now (tt .entry)) (now (td .entry)))) (partsOf (now (ofrom .entry)) (now (oto .entry)) (edits (now (outvalues .entry)) (now (outtimes .entry)) (now (outdiffs .entry)))) (segments 0 (now (mends .entry)) (now (moments .entry)))) fixes r (now (marks .entry)) (now (marks .exit)) (now (fk .entry)) (now (fv .entry)) (now (ft .entry)) (now (fd .entry)) (now (fk .exit)) (now (fv .exit)) (now (ft .exit)) (now (fd .exit)) ⌝ }
 {
     let mut b = 0;
     let mut g = 0;

@@ -22,15 +22,15 @@ use Rattle.grid.proofs.Loops.{drop-more}
 use Rattle.grid.proofs.Sizes.{mass}
 use Rattle.rules.specs.Histories.{Edit}
 use Rattle.rules.specs.Retire.{Round, dated, roundAt, settle}
-use Rattle.backends.specs.Crossing.{part}
+use Rattle.backends.specs.Segments.{part}
 use Rattle.moments.specs.Present.{edits}
+use Rattle.moments.proofs.Columns.{edits-long}
 use Rattle.marks.specs.Marks.{markedAt}
 use Rattle.fixing.specs.Settle.{LentFixes, LentSums, KeySettled}
 use Rattle.fixing.proofs.Left.{Left, left-start, left-more, left-end, left-marks}
 use Rattle.gather.specs.Meets.{meetOf, meetsOf}
 use Rattle.gather.specs.Loads.{Timely}
 use Rattle.gather.specs.Gather.{upTo}
-use Rattle.gather.proofs.Columns.{edits-long}
 use Rattle.gather.proofs.Under.{meet-under}
 use Rattle.replay.specs.Replay.{Staged, TurnAsks, TurnTaken, RoundsAsk, inputNow, outputNow}
 use Rattle.replay.specs.declared.Stage.{Stage}
@@ -50,8 +50,8 @@ meets-under moments far j e h =
 
 -- ---- a round
 -- where the corrections are too large, nothing is promised of the rounds that are left
-left-any : {k : ℕ} {all left left′ : List Round} {j n r : ℕ} {large : Bool} {marks₀ marks fk₀ fv₀ ft₀ : List ℕ} {fd₀ : List ℤ} {fk fv ft : List ℕ} {fd : List ℤ}
-    → large ≡ true → Left k all left j n r large marks₀ marks fk₀ fv₀ ft₀ fd₀ fk fv ft fd → Left k all left′ j n r large marks₀ marks fk₀ fv₀ ft₀ fd₀ fk fv ft fd
+left-any : {most k : ℕ} {all left left′ : List Round} {j n r : ℕ} {large : Bool} {marks₀ marks fk₀ fv₀ ft₀ : List ℕ} {fd₀ : List ℤ} {fk fv ft : List ℕ} {fd : List ℤ}
+    → large ≡ true → Left most k all left j n r large marks₀ marks fk₀ fv₀ ft₀ fd₀ fk fv ft fd → Left most k all left′ j n r large marks₀ marks fk₀ fv₀ ft₀ fd₀ fk fv ft fd
 left-any {large = large} h l = record {
   over = l .over;
   large-is = λ e. clash large h e;
@@ -66,8 +66,8 @@ left-any {large = large} h l = record {
 abbrev pub roundsLeft : ℕ → ℕ → List Edit → List Edit → List Edit → List ℕ → ℕ → Stage → List Round
 roundsLeft mode e ss xs us moments j w = settle mode (take (w .held) xs ++ part (w .at) e xs) (take (w .output) us ++ drop (w .out) ss) (drop j moments)
 
-module _ {mode k t m e : ℕ} {ss xs us : List Edit} {w r : Stage} {xs′ us′ : List Edit} {fk fv ft : List ℕ} {fd : List ℤ} {fk′ fv′ ft′ : List ℕ} {fd′ : List ℤ}
-    (d : TurnTaken mode k t m e ss xs us w r xs′ us′ fk fv ft fd fk′ fv′ ft′ fd′) (s : Staged e ss xs us w) (moments : List ℕ) (j : ℕ)
+module _ {most mode k t m e : ℕ} {ss xs us : List Edit} {w r : Stage} {xs′ us′ : List Edit} {fk fv ft : List ℕ} {fd : List ℤ} {fk′ fv′ ft′ : List ℕ} {fd′ : List ℤ}
+    (d : TurnTaken most mode k t m e ss xs us w r xs′ us′ fk fv ft fd fk′ fv′ ft′ fd′) (s : Staged most e ss xs us w) (moments : List ℕ) (j : ℕ)
     (h : j < length moments) (a : t ≡ getD moments j 0) (b : All (λ u. below m u ≡ true) (drop j moments)) where
   abbrev I : List Edit
   I = inputNow t m e xs w
@@ -99,41 +99,41 @@ module _ {mode k t m e : ℕ} {ss xs us : List Edit} {w r : Stage} {xs′ us′ 
       λ z. settle mode (p z ++ q z) (u z ++ v z) (drop (j + 1) moments)
 
   turn-left : {all : List Round} {n : ℕ} {marks₀ marks marks′ fk₀ fv₀ ft₀ : List ℕ} {fd₀ : List ℤ}
-      → w .large ≡ false → Left k all (roundsLeft mode e ss xs us moments j w) j n (w .fixes) (w .large) marks₀ marks fk₀ fv₀ ft₀ fd₀ fk fv ft fd
+      → w .large ≡ false → Left most k all (roundsLeft mode e ss xs us moments j w) j n (w .fixes) (w .large) marks₀ marks fk₀ fv₀ ft₀ fd₀ fk fv ft fd
       → j < length marks → marks′ ≡ markedAt (r .crossed) j marks
-      → Left k all (roundsLeft mode e ss xs′ us′ moments (j + 1) r) (j + 1) n (r .fixes) (r .large) marks₀ marks′ fk₀ fv₀ ft₀ fd₀ fk′ fv′ ft′ fd′
+      → Left most k all (roundsLeft mode e ss xs′ us′ moments (j + 1) r) (j + 1) n (r .fixes) (r .large) marks₀ marks′ fk₀ fv₀ ft₀ fd₀ fk′ fv′ ft′ fd′
   turn-left {all} {n} {marks₀} {marks} {marks′} {fk₀} {fv₀} {ft₀} {fd₀} o l c q =
-      let l₁ : Left k all (x ∷ rest) j n (w .fixes) false marks₀ marks fk₀ fv₀ ft₀ fd₀ fk fv ft fd =
-      subst (λ (y : Bool). Left k all (x ∷ rest) j n (w .fixes) y marks₀ marks fk₀ fv₀ ft₀ fd₀ fk fv ft fd) o
-      (subst (λ (y : List Round). Left k all y j n (w .fixes) (w .large) marks₀ marks fk₀ fv₀ ft₀ fd₀ fk fv ft fd) left-is l) in
+      let l₁ : Left most k all (x ∷ rest) j n (w .fixes) false marks₀ marks fk₀ fv₀ ft₀ fd₀ fk fv ft fd =
+      subst (λ (y : Bool). Left most k all (x ∷ rest) j n (w .fixes) y marks₀ marks fk₀ fv₀ ft₀ fd₀ fk fv ft fd) o
+      (subst (λ (y : List Round). Left most k all y j n (w .fixes) (w .large) marks₀ marks fk₀ fv₀ ft₀ fd₀ fk fv ft fd) left-is l) in
       let m₁ : marks′ ≡ markedAt (x .crossed) j marks = q ∙ ap (λ y. markedAt y j marks) (d .crossed-is) in
       by-test (r .large)
       (λ y. left-any y (left-more l₁ (d .listed) c m₁ refl))
       (λ y. left-more l₁ (d .listed) c m₁ (later-is y))
 
 -- ---- the loop
-pub record Playing (mode k : ℕ) (moments far : List ℕ) (e : ℕ) (sv st : List ℕ) (sd : List ℤ) (xv₀ xt₀ : List ℕ) (xd₀ : List ℤ) (uv₀ ut₀ : List ℕ) (ud₀ : List ℤ) (iv₀ : List ℕ) (id₀ : List ℤ) (ov₀ : List ℕ) (od₀ : List ℤ) (cv₀ : List ℕ) (cd₀ : List ℤ) (marks₀ fk₀ fv₀ ft₀ : List ℕ) (fd₀ : List ℤ) (fixes : ℕ)
+pub record Playing (most mode k : ℕ) (moments far : List ℕ) (e : ℕ) (sv st : List ℕ) (sd : List ℤ) (xv₀ xt₀ : List ℕ) (xd₀ : List ℤ) (uv₀ ut₀ : List ℕ) (ud₀ : List ℤ) (iv₀ : List ℕ) (id₀ : List ℤ) (ov₀ : List ℕ) (od₀ : List ℤ) (cv₀ : List ℕ) (cd₀ : List ℤ) (marks₀ fk₀ fv₀ ft₀ : List ℕ) (fd₀ : List ℤ) (fixes : ℕ)
     (xv xt : List ℕ) (xd : List ℤ) (uv ut : List ℕ) (ud : List ℤ) (iv : List ℕ) (id : List ℤ) (ov : List ℕ) (od : List ℤ) (cv : List ℕ) (cd : List ℤ) (marks fk fv ft : List ℕ) (fd : List ℤ) (j : ℕ) (w : Stage) : Type 0 where
-  pub asks : RoundsAsk moments far e sv st sd xv₀ xt₀ xd₀ uv₀ ut₀ ud₀ iv₀ id₀ ov₀ od₀ cv₀ cd₀ marks₀ fk₀ fv₀ ft₀ fd₀ fixes
+  pub asks : RoundsAsk most moments far e sv st sd xv₀ xt₀ xd₀ uv₀ ut₀ ud₀ iv₀ id₀ ov₀ od₀ cv₀ cd₀ marks₀ fk₀ fv₀ ft₀ fd₀ fixes
   pub long-xv : length xv ≡ 8192
   pub long-xt : length xt ≡ 8192
   pub long-xd : length xd ≡ 8192
-  pub long-uv : length uv ≡ 8192
-  pub long-ut : length ut ≡ 8192
-  pub long-ud : length ud ≡ 8192
-  pub sums : LentSums iv ov id od cv cd
-  pub lent : LentFixes fk fv ft fd
-  pub left : Left k (settle mode (take e (edits xv₀ xt₀ xd₀)) (edits sv st sd) moments) (roundsLeft mode e (edits sv st sd) (edits xv xt xd) (edits uv ut ud) moments j w) j fixes (w .fixes) (w .large) marks₀ marks fk₀ fv₀ ft₀ fd₀ fk fv ft fd
-  pub staged : w .large ≡ false → Staged e (edits sv st sd) (edits xv xt xd) (edits uv ut ud) w
+  pub long-uv : length uv ≡ most + most
+  pub long-ut : length ut ≡ most + most
+  pub long-ud : length ud ≡ most + most
+  pub sums : LentSums most iv ov id od cv cd
+  pub lent : LentFixes most fk fv ft fd
+  pub left : Left most k (settle mode (take e (edits xv₀ xt₀ xd₀)) (edits sv st sd) moments) (roundsLeft mode e (edits sv st sd) (edits xv xt xd) (edits uv ut ud) moments j w) j fixes (w .fixes) (w .large) marks₀ marks fk₀ fv₀ ft₀ fd₀ fk fv ft fd
+  pub staged : w .large ≡ false → Staged most e (edits sv st sd) (edits xv xt xd) (edits uv ut ud) w
 
-module _ (mode k : ℕ) {moments far : List ℕ} {e : ℕ} {sv st : List ℕ} {sd : List ℤ} {xv xt : List ℕ} {xd : List ℤ} {uv ut : List ℕ} {ud : List ℤ} {iv : List ℕ} {id : List ℤ} {ov : List ℕ} {od : List ℤ} {cv : List ℕ} {cd : List ℤ} {marks fk fv ft : List ℕ} {fd : List ℤ} {fixes : ℕ}
-    (x : RoundsAsk moments far e sv st sd xv xt xd uv ut ud iv id ov od cv cd marks fk fv ft fd fixes) where
-  pub playing-start : Playing mode k moments far e sv st sd xv xt xd uv ut ud iv id ov od cv cd marks fk fv ft fd fixes xv xt xd uv ut ud iv id ov od cv cd marks fk fv ft fd 0
+module _ {most : ℕ} (mode k : ℕ) {moments far : List ℕ} {e : ℕ} {sv st : List ℕ} {sd : List ℤ} {xv xt : List ℕ} {xd : List ℤ} {uv ut : List ℕ} {ud : List ℤ} {iv : List ℕ} {id : List ℤ} {ov : List ℕ} {od : List ℤ} {cv : List ℕ} {cd : List ℤ} {marks fk fv ft : List ℕ} {fd : List ℤ} {fixes : ℕ}
+    (x : RoundsAsk most moments far e sv st sd xv xt xd uv ut ud iv id ov od cv cd marks fk fv ft fd fixes) where
+  pub playing-start : Playing most mode k moments far e sv st sd xv xt xd uv ut ud iv id ov od cv cd marks fk fv ft fd fixes xv xt xd uv ut ud iv id ov od cv cd marks fk fv ft fd 0
       (record { held = 0; at = 0; output = 0; out = 0; crossed = false; fixes = fixes; large = false })
   playing-start =
       let z : e ≡ e - 0 = omega arith in
       let n : length (edits sv st sd) ≡ length sv = edits-long sv st sd (x .same-st) (x .same-sd) in
-      let f : length sv ≤ 4096 = x .output-few in
+      let f : length sv ≤ most = x .output-few in
       let l : mass natAbs (edits sv st sd) ≤ 4096 * 2 ^ 31 = x .output-light in
       record {
         asks = x;
@@ -145,7 +145,7 @@ module _ (mode k : ℕ) {moments far : List ℕ} {e : ℕ} {sv st : List ℕ} {s
         long-ud = x .memory .long-ud;
         sums = x .memory .sums;
         lent = x .memory .lent;
-        left = subst (λ (i : ℕ). Left k (settle mode (take e (edits xv xt xd)) (edits sv st sd) moments) (settle mode (take i (edits xv xt xd)) (edits sv st sd) moments) 0 fixes fixes false marks marks fk fv ft fd fk fv ft fd) z
+        left = subst (λ (i : ℕ). Left most k (settle mode (take e (edits xv xt xd)) (edits sv st sd) moments) (settle mode (take i (edits xv xt xd)) (edits sv st sd) moments) 0 fixes fixes false marks marks fk fv ft fd fk fv ft fd) z
             (left-start (x .memory .fits));
         staged = λ h. record {
           before = omega arith;
@@ -161,9 +161,9 @@ module _ (mode k : ℕ) {moments far : List ℕ} {e : ℕ} {sv st : List ℕ} {s
         };
       }
 
-module _ {mode k : ℕ} {moments far : List ℕ} {e : ℕ} {sv st : List ℕ} {sd : List ℤ} {xv₀ xt₀ : List ℕ} {xd₀ : List ℤ} {uv₀ ut₀ : List ℕ} {ud₀ : List ℤ} {iv₀ : List ℕ} {id₀ : List ℤ} {ov₀ : List ℕ} {od₀ : List ℤ} {cv₀ : List ℕ} {cd₀ : List ℤ} {marks₀ fk₀ fv₀ ft₀ : List ℕ} {fd₀ : List ℤ} {fixes : ℕ}
+module _ {most mode k : ℕ} {moments far : List ℕ} {e : ℕ} {sv st : List ℕ} {sd : List ℤ} {xv₀ xt₀ : List ℕ} {xd₀ : List ℤ} {uv₀ ut₀ : List ℕ} {ud₀ : List ℤ} {iv₀ : List ℕ} {id₀ : List ℤ} {ov₀ : List ℕ} {od₀ : List ℤ} {cv₀ : List ℕ} {cd₀ : List ℤ} {marks₀ fk₀ fv₀ ft₀ : List ℕ} {fd₀ : List ℤ} {fixes : ℕ}
     {xv xt : List ℕ} {xd : List ℤ} {uv ut : List ℕ} {ud : List ℤ} {iv : List ℕ} {id : List ℤ} {ov : List ℕ} {od : List ℤ} {cv : List ℕ} {cd : List ℤ} {marks fk fv ft : List ℕ} {fd : List ℤ} {j : ℕ} {w : Stage}
-    (g : Playing mode k moments far e sv st sd xv₀ xt₀ xd₀ uv₀ ut₀ ud₀ iv₀ id₀ ov₀ od₀ cv₀ cd₀ marks₀ fk₀ fv₀ ft₀ fd₀ fixes xv xt xd uv ut ud iv id ov od cv cd marks fk fv ft fd j w) where
+    (g : Playing most mode k moments far e sv st sd xv₀ xt₀ xd₀ uv₀ ut₀ ud₀ iv₀ id₀ ov₀ od₀ cv₀ cd₀ marks₀ fk₀ fv₀ ft₀ fd₀ fixes xv xt xd uv ut ud iv id ov od cv cd marks fk fv ft fd j w) where
   module _ (t : (not (w .large) && ltb j (length moments)) ≡ true) where
     before : j < length moments
     before = ltb-true j (length moments) (and-r (not (w .large)) (ltb j (length moments)) t)
@@ -181,20 +181,23 @@ module _ {mode k : ℕ} {moments far : List ℕ} {e : ℕ} {sv st : List ℕ} {s
     pub playing-less : length moments - (j + 1) < length moments - j
     playing-less = let a : j < length moments = before in omega (arith, a)
 
-    pub playing-turn : TurnAsks e sv st sd xv xt xd uv ut ud iv id ov od cv cd fk fv ft fd w
-    playing-turn = record {
-      same-st = g .asks .same-st;
-      same-sd = g .asks .same-sd;
-      long-xv = g .long-xv;
-      long-xt = g .long-xt;
-      long-xd = g .long-xd;
-      long-uv = g .long-uv;
-      long-ut = g .long-ut;
-      long-ud = g .long-ud;
-      sums = g .sums;
-      lent = g .lent;
-      staged = g .staged open-yet;
-    }
+    pub playing-turn : TurnAsks (length fk) e sv st sd xv xt xd uv ut ud iv id ov od cv cd fk fv ft fd w
+    playing-turn =
+        subst (λ (i : ℕ). TurnAsks i e sv st sd xv xt xd uv ut ud iv id ov od cv cd fk fv ft fd w) (sym (g .lent .long-k))
+        (record {
+          same-st = g .asks .same-st;
+          same-sd = g .asks .same-sd;
+          long-xv = g .long-xv;
+          long-xt = g .long-xt;
+          long-xd = g .long-xd;
+          long-uv = g .long-uv;
+          long-ut = g .long-ut;
+          long-ud = g .long-ud;
+          sums = g .sums;
+          lent = g .lent;
+          room-few = g .asks .memory .room-few;
+          staged = g .staged open-yet;
+        })
 
     pub playing-mark : j < length marks
     playing-mark =
@@ -205,25 +208,28 @@ module _ {mode k : ℕ} {moments far : List ℕ} {e : ℕ} {sv st : List ℕ} {s
         omega (arith, a, b, c, d)
 
     pub playing-more : {r : Stage} {xv′ xt′ : List ℕ} {xd′ : List ℤ} {uv′ ut′ : List ℕ} {ud′ : List ℤ} {iv′ : List ℕ} {id′ : List ℤ} {ov′ : List ℕ} {od′ : List ℤ} {cv′ : List ℕ} {cd′ : List ℤ} {marks′ fk′ fv′ ft′ : List ℕ} {fd′ : List ℤ}
-        → TurnTaken mode k (getD moments j 0) (getD far j 0) e (edits sv st sd) (edits xv xt xd) (edits uv ut ud) w r (edits xv′ xt′ xd′) (edits uv′ ut′ ud′) fk fv ft fd fk′ fv′ ft′ fd′
+        → TurnTaken (length fk) mode k (getD moments j 0) (getD far j 0) e (edits sv st sd) (edits xv xt xd) (edits uv ut ud) w r (edits xv′ xt′ xd′) (edits uv′ ut′ ud′) fk fv ft fd fk′ fv′ ft′ fd′
         → marks′ ≡ markedAt (r .crossed) j marks
         → length xv′ ≡ length xv → length xt′ ≡ length xt → length xd′ ≡ length xd → length uv′ ≡ length uv → length ut′ ≡ length ut → length ud′ ≡ length ud
         → length iv′ ≡ length iv → length id′ ≡ length id → length ov′ ≡ length ov → length od′ ≡ length od → length cv′ ≡ length cv → length cd′ ≡ length cd
         → length fk′ ≡ length fk → length fv′ ≡ length fv → length ft′ ≡ length ft → length fd′ ≡ length fd
-        → Playing mode k moments far e sv st sd xv₀ xt₀ xd₀ uv₀ ut₀ ud₀ iv₀ id₀ ov₀ od₀ cv₀ cd₀ marks₀ fk₀ fv₀ ft₀ fd₀ fixes xv′ xt′ xd′ uv′ ut′ ud′ iv′ id′ ov′ od′ cv′ cd′ marks′ fk′ fv′ ft′ fd′ (j + 1) r
-    playing-more d q lxv lxt lxd luv lut lud liv lid lov lod lcv lcd lfk lfv lft lfd = record {
-      asks = g .asks;
-      long-xv = lxv ∙ g .long-xv;
-      long-xt = lxt ∙ g .long-xt;
-      long-xd = lxd ∙ g .long-xd;
-      long-uv = luv ∙ g .long-uv;
-      long-ut = lut ∙ g .long-ut;
-      long-ud = lud ∙ g .long-ud;
-      sums = record { long-iv = liv ∙ g .sums .long-iv; long-ov = lov ∙ g .sums .long-ov; long-id = lid ∙ g .sums .long-id; long-od = lod ∙ g .sums .long-od; long-cv = lcv ∙ g .sums .long-cv; long-cd = lcd ∙ g .sums .long-cd };
-      lent = record { long-k = lfk ∙ g .lent .long-k; long-v = lfv ∙ g .lent .long-v; long-t = lft ∙ g .lent .long-t; long-d = lfd ∙ g .lent .long-d };
-      left = turn-left d (g .staged open-yet) moments j before refl (meets-under moments far j (g .asks .meets-are) before) open-yet (g .left) playing-mark q;
-      staged = d .staged;
-    }
+        → Playing most mode k moments far e sv st sd xv₀ xt₀ xd₀ uv₀ ut₀ ud₀ iv₀ id₀ ov₀ od₀ cv₀ cd₀ marks₀ fk₀ fv₀ ft₀ fd₀ fixes xv′ xt′ xd′ uv′ ut′ ud′ iv′ id′ ov′ od′ cv′ cd′ marks′ fk′ fv′ ft′ fd′ (j + 1) r
+    playing-more {r} {xv′} {xt′} {xd′} {uv′} {ut′} {ud′} {fk′ = fk′} {fv′} {ft′} {fd′} d₀ q lxv lxt lxd luv lut lud liv lid lov lod lcv lcd lfk lfv lft lfd =
+        let d : TurnTaken most mode k (getD moments j 0) (getD far j 0) e (edits sv st sd) (edits xv xt xd) (edits uv ut ud) w r (edits xv′ xt′ xd′) (edits uv′ ut′ ud′) fk fv ft fd fk′ fv′ ft′ fd′ =
+        subst (λ (i : ℕ). TurnTaken i mode k (getD moments j 0) (getD far j 0) e (edits sv st sd) (edits xv xt xd) (edits uv ut ud) w r (edits xv′ xt′ xd′) (edits uv′ ut′ ud′) fk fv ft fd fk′ fv′ ft′ fd′) (g .lent .long-k) d₀ in
+        record {
+          asks = g .asks;
+          long-xv = lxv ∙ g .long-xv;
+          long-xt = lxt ∙ g .long-xt;
+          long-xd = lxd ∙ g .long-xd;
+          long-uv = luv ∙ g .long-uv;
+          long-ut = lut ∙ g .long-ut;
+          long-ud = lud ∙ g .long-ud;
+          sums = record { long-iv = liv ∙ g .sums .long-iv; long-ov = lov ∙ g .sums .long-ov; long-id = lid ∙ g .sums .long-id; long-od = lod ∙ g .sums .long-od; long-cv = lcv ∙ g .sums .long-cv; long-cd = lcd ∙ g .sums .long-cd };
+          lent = record { long-k = lfk ∙ g .lent .long-k; long-v = lfv ∙ g .lent .long-v; long-t = lft ∙ g .lent .long-t; long-d = lfd ∙ g .lent .long-d };
+          left = turn-left d (g .staged open-yet) moments j before refl (meets-under moments far j (g .asks .meets-are) before) open-yet (g .left) playing-mark q;
+          staged = d .staged;
+        }
 
   pub playing-kept : (length xv ≡ length xv₀) × ((length xt ≡ length xt₀) × ((length xd ≡ length xd₀) × ((length uv ≡ length uv₀) × ((length ut ≡ length ut₀) × ((length ud ≡ length ud₀) × ((length iv ≡ length iv₀) × ((length id ≡ length id₀) × ((length ov ≡ length ov₀) × ((length od ≡ length od₀) × ((length cv ≡ length cv₀) × ((length cd ≡ length cd₀) × ((length marks ≡ length marks₀) × ((length fk ≡ length fk₀) × ((length fv ≡ length fv₀) × ((length ft ≡ length ft₀) × (length fd ≡ length fd₀))))))))))))))))
   playing-kept =
@@ -238,5 +244,5 @@ module _ {mode k : ℕ} {moments far : List ℕ} {e : ℕ} {sv st : List ℕ} {s
       ap (settle mode (take (w .held) (edits xv xt xd) ++ part (w .at) e (edits xv xt xd)) (take (w .output) (edits uv ut ud) ++ drop (w .out) (edits sv st sd))) (drop-of-length-le moments a)
 
   pub playing-end : (not (w .large) && ltb j (length moments)) ≡ false
-      → KeySettled mode k (take e (edits xv₀ xt₀ xd₀)) (edits sv st sd) moments fixes (record { fixes = w .fixes; large = w .large }) marks₀ marks fk₀ fv₀ ft₀ fd₀ fk fv ft fd
+      → KeySettled most mode k (take e (edits xv₀ xt₀ xd₀)) (edits sv st sd) moments fixes (record { fixes = w .fixes; large = w .large }) marks₀ marks fk₀ fv₀ ft₀ fd₀ fk fv ft fd
   playing-end t = record { listed = left-end (g .left) (none-left t); marks-are = left-marks (g .left) (none-left t) }

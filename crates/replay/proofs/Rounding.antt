@@ -1,6 +1,5 @@
 -- One round of a key by a collapsed replay.
 --
--- front-edits: the edits at the front of three columns
 -- gather-input, gather-output: what gathering asks. input-bounds, show-input, output-bounds, show-output: what showing what is held asks then
 -- adds-fit: what is seen can be counted. nothing-taken: what the round leaves where nothing is seen
 -- fix-asks: what settling what is seen asks. large-taken: what the round leaves where the corrections become too large
@@ -27,21 +26,23 @@ use Rattle.rules.specs.Retire.{Round, seen, crosses, dated, roundAt}
 use Rattle.rules.proofs.Retire.{canon-seen}
 use Rattle.diffs.specs.Diffs.{modest}
 use Rattle.backends.specs.Columns.{entries, Appended}
-use Rattle.backends.specs.Crossing.{part}
+use Rattle.backends.specs.Segments.{part}
 use Rattle.moments.specs.Present.{edits, Shows}
-use Rattle.moments.proofs.Showing.{part-edits, laid-part, seen-length}
+use Rattle.moments.proofs.Columns.{edits-long, front-edits}
+use Rattle.moments.proofs.Showing.{laid-part, seen-length}
 use Rattle.moments.proofs.Seen.{seen-modest}
 use Rattle.rounds.specs.Merges.{Rows}
 use Rattle.slots.specs.Slots.{rowsIn, rowsTooLarge}
+use Rattle.slots.proofs.Large.{not-large}
 use Rattle.fixing.specs.Fixes.{fixRows}
 use Rattle.fixing.specs.Settle.{Fixes, FixedAt}
 use Rattle.fixing.specs.declared.Fixed.{Fixed}
-use Rattle.fixing.proofs.Left.{listed, not-large}
-use Rattle.fixing.proofs.Corrected.{held-diffs, held-entries, fixes-fit, fixes-small}
+use Rattle.fixing.proofs.Left.{listed}
+use Rattle.fixing.proofs.Corrected.{held-diffs, held-entries, rows-fixed, rows-length, fixes-fit, fixes-small}
 use Rattle.gather.specs.Loads.{Timely}
 use Rattle.gather.specs.Gather.{upTo, Within, WithinDone, From, FromDone, Dates}
 use Rattle.gather.specs.declared.Held.{Held}
-use Rattle.gather.proofs.Columns.{edits-long, rows-front}
+use Rattle.gather.proofs.Columns.{rows-front}
 use Rattle.replay.specs.Replay.{Staged, TurnAsks, TurnTaken, inputNow, outputNow}
 use Rattle.replay.specs.declared.Stage.{Stage}
 
@@ -57,13 +58,9 @@ end-is {s = s} {r = r} a =
     let n : length (map (λ (y : ℕ × ℤ). y .0) s) ≡ length s = length-map s (λ (y : ℕ × ℤ). y .0) in
     omega arith
 
--- the front of three columns
-pub front-edits : (n : ℕ) (vs ts : List ℕ) (ds : List ℤ) → edits (take (n - 0) vs) (take (n - 0) ts) (take (n - 0) ds) ≡ take n (edits vs ts ds)
-front-edits n vs ts ds = let z : n - 0 ≡ n = omega arith in part-edits 0 n vs ts ds ∙ ap (λ i. take i (edits vs ts ds)) z
-
-shows-front : (n : ℕ) (vs ts : List ℕ) (ds : List ℤ) (sv : List ℕ) (sd : List ℤ) → length vs ≡ 8192 → length ts ≡ 8192 → length ds ≡ 8192 → length sv ≡ 8192 → length sd ≡ 8192
-    → n ≤ 8192 → Sorted leb (map valueOf (take n (edits vs ts ds))) → mass natAbs (take n (edits vs ts ds)) ≤ 8192 * 2 ^ 31 → Shows (take (n - 0) vs) (take (n - 0) ts) (take (n - 0) ds) sv sd 0
-shows-front n vs ts ds sv sd a b c d e h s l =
+shows-front : {long wide : ℕ} (n : ℕ) (vs ts : List ℕ) (ds : List ℤ) (sv : List ℕ) (sd : List ℤ) → length vs ≡ long → length ts ≡ long → length ds ≡ long → length sv ≡ wide → length sd ≡ wide
+    → long ≤ 8192 → n ≤ long → n ≤ wide → Sorted leb (map valueOf (take n (edits vs ts ds))) → mass natAbs (take n (edits vs ts ds)) ≤ 8192 * 2 ^ 31 → Shows (take (n - 0) vs) (take (n - 0) ts) (take (n - 0) ds) sv sd 0
+shows-front n vs ts ds sv sd a b c d e f h w s l =
     let z : n ≡ n - 0 = omega arith in
     let k : length (take (n - 0) vs) ≡ n - 0 = length-take-le (n - 0) vs (omega arith) in
     record {
@@ -78,8 +75,8 @@ shows-front n vs ts ds sv sd a b c d e h s l =
 
 -- ---- a round's rows
 fix-rows : (k mode : ℕ) (I O : List Edit) (t : ℕ) → crosses (seen t I) (seen t O) ≡ true → fixRows k t (correction mode (seen t I) (seen t O)) ≡ rowsIn k (roundAt mode I O t)
-unfolding fixRows rowsIn roundAt
-fix-rows k mode I O t e = rw e
+unfolding roundAt
+fix-rows k mode I O t e = rw e (rows-fixed k t true (correction mode (seen t I) (seen t O)))
 
 fixes-are : (mode : ℕ) (I O : List Edit) (t : ℕ) → crosses (seen t I) (seen t O) ≡ true → correction mode (seen t I) (seen t O) ≡ roundAt mode I O t .fixes
 unfolding roundAt
@@ -114,17 +111,13 @@ unfolding dated
 dated-length t c = length-map c _
 
 -- diffs in range
-dated-mass : (k t n : ℕ) (c : Sums) → rowsTooLarge n (fixRows k t c) ≡ false → mass natAbs (dated t c) ≤ length c * 2 ^ 31
+dated-mass : (most k t n : ℕ) (c : Sums) → rowsTooLarge most n (fixRows k t c) ≡ false → mass natAbs (dated t c) ≤ length c * 2 ^ 31
 unfolding dated
-dated-mass k t n c q =
-    let b : mass natAbs (dated t c) ≤ length (dated t c) * 2 ^ 31 = mass-most natAbs (2 ^ 31) (all-map _ (fixes-small n k t c q)) in
+dated-mass most k t n c q =
+    let b : mass natAbs (dated t c) ≤ length (dated t c) * 2 ^ 31 = mass-most natAbs (2 ^ 31) (all-map _ (fixes-small most n k t c q)) in
     let l : length (dated t c) ≡ length c = length-map c _ in
     let g : length (dated t c) * 2 ^ 31 ≡ length c * 2 ^ 31 = ap (λ i. i * 2 ^ 31) l in
     omega (arith, b, g)
-
-rows-length : (k t : ℕ) (c : Sums) → length (fixRows k t c) ≡ length c
-unfolding fixRows
-rows-length k t c = length-map c _
 
 take-few : {A : Type 0} (n : ℕ) (l : List A) → length (take n l) ≤ n
 take-few n l = rw length-take (omega arith)
@@ -134,8 +127,8 @@ unfolding dated
 dated-none t es = append-nil es
 
 -- ---- a round
-module _ {e : ℕ} {sv st : List ℕ} {sd : List ℤ} {xv xt : List ℕ} {xd : List ℤ} {uv ut : List ℕ} {ud : List ℤ} {iv : List ℕ} {id : List ℤ} {ov : List ℕ} {od : List ℤ} {cv : List ℕ} {cd : List ℤ} {fk fv ft : List ℕ} {fd : List ℤ} {w : Stage}
-    (x : TurnAsks e sv st sd xv xt xd uv ut ud iv id ov od cv cd fk fv ft fd w) where
+module _ {most e : ℕ} {sv st : List ℕ} {sd : List ℤ} {xv xt : List ℕ} {xd : List ℤ} {uv ut : List ℕ} {ud : List ℤ} {iv : List ℕ} {id : List ℤ} {ov : List ℕ} {od : List ℤ} {cv : List ℕ} {cd : List ℤ} {fk fv ft : List ℕ} {fd : List ℤ} {w : Stage}
+    (x : TurnAsks most e sv st sd xv xt xd uv ut ud iv id ov od cv cd fk fv ft fd w) where
   abbrev S : List Edit
   S = edits sv st sd
 
@@ -148,17 +141,24 @@ module _ {e : ℕ} {sv st : List ℕ} {sd : List ℤ} {xv xt : List ℕ} {xd : L
   long-s : length (edits sv st sd) ≡ length sv
   long-s = edits-long sv st sd (x .same-st) (x .same-sd)
 
+  twice-few : most + most ≤ 8192
+  twice-few = let r : most ≤ 4096 = x .room-few in omega (arith, r)
+
+  fixes-few : w .fixes ≤ 4096
+  fixes-few = let f : w .fixes ≤ most = x .staged .fits in let r : most ≤ 4096 = x .room-few in omega (arith, f, r)
+
   pub gather-input : Within (w .at) e (w .held) xv xt xd cv iv ov od
   gather-input =
-      let a : e ≤ 8192 = x .staged .within in
+      let a : e ≤ most + most = x .staged .within in
+      let r : most + most ≤ 8192 = twice-few in
       let b : length xv ≡ 8192 = x .long-xv in
-      let c : length cv ≡ 16384 = x .sums .long-cv in
-      let d : length iv ≡ 8192 = x .sums .long-iv in
-      let f : length ov ≡ 8192 = x .sums .long-ov in
-      let g : length od ≡ 8192 = x .sums .long-od in
+      let c : length cv ≡ (most + most) + (most + most) = x .sums .long-cv in
+      let d : length iv ≡ most + most = x .sums .long-iv in
+      let f : length ov ≡ most + most = x .sums .long-ov in
+      let g : length od ≡ most + most = x .sums .long-od in
       let l = x .staged .input-light in
       record {
-        moves = record { same-t = x .long-xt ∙ sym b; same-d = x .long-xd ∙ sym b; before = x .staged .before; forth = x .staged .forth; within = omega (arith, a, b) };
+        moves = record { same-t = x .long-xt ∙ sym b; same-d = x .long-xd ∙ sym b; before = x .staged .before; forth = x .staged .forth; within = omega (arith, a, r, b) };
         light = omega (arith, l);
         scratch = record { room-places = omega (arith, a, c); room-firsts = omega (arith, a, d); room-seconds = omega (arith, a, f); room-sums = omega (arith, a, g) };
       }
@@ -166,17 +166,18 @@ module _ {e : ℕ} {sv st : List ℕ} {sd : List ℤ} {xv xt : List ℕ} {xd : L
   pub gather-output : {cv₁ iv₁ ov₁ : List ℕ} {od₁ : List ℤ} → length cv₁ ≡ length cv → length iv₁ ≡ length iv → length ov₁ ≡ length ov → length od₁ ≡ length od
       → From (w .out) sv st sd (w .output) uv ut ud cv₁ iv₁ ov₁ od₁
   gather-output {cv₁} {iv₁} {ov₁} {od₁} lc li lo ld =
-      let b : length uv ≡ 8192 = x .long-uv in
-      let c : length cv₁ ≡ 16384 = lc ∙ x .sums .long-cv in
-      let d : length iv₁ ≡ 8192 = li ∙ x .sums .long-iv in
-      let f : length ov₁ ≡ 8192 = lo ∙ x .sums .long-ov in
-      let g : length od₁ ≡ 8192 = ld ∙ x .sums .long-od in
+      let b : length uv ≡ most + most = x .long-uv in
+      let c : length cv₁ ≡ (most + most) + (most + most) = lc ∙ x .sums .long-cv in
+      let d : length iv₁ ≡ most + most = li ∙ x .sums .long-iv in
+      let f : length ov₁ ≡ most + most = lo ∙ x .sums .long-ov in
+      let g : length od₁ ≡ most + most = ld ∙ x .sums .long-od in
       let l : mass natAbs (take (w .output) U) + mass natAbs (drop (w .out) S) ≤ (4096 + w .fixes) * 2 ^ 31 = x .staged .output-light in
-      let n : w .output + (length S - w .out) ≤ 4096 + w .fixes = x .staged .output-few in
-      let z : w .fixes ≤ 4096 = x .staged .fits in
+      let n : w .output + (length S - w .out) ≤ most + w .fixes = x .staged .output-few in
+      let y : w .fixes ≤ most = x .staged .fits in
+      let z : w .fixes ≤ 4096 = fixes-few in
       let s : length S ≡ length sv = long-s in
       let o : w .out ≤ length S = x .staged .out-forth in
-      let k : w .output + (length sv - w .out) ≤ 8192 = omega (arith, n, z, s) in
+      let k : w .output + (length sv - w .out) ≤ most + most = omega (arith, n, y, s) in
       record {
         same-st = x .same-st;
         same-sd = x .same-sd;
@@ -193,20 +194,21 @@ module _ {e : ℕ} {sv st : List ℕ} {sd : List ℤ} {xv xt : List ℕ} {xd : L
     abbrev X₁ : List Edit
     X₁ = edits xv₁ xt₁ xd₁
 
-    held-few : h .count ≤ 8192
+    held-few : h .count ≤ most + most
     held-few =
         let a : h .count ≤ h .at = g .before in
         let b : h .at ≤ e = g .forth in
-        let c : e ≤ 8192 = x .staged .within in
+        let c : e ≤ most + most = x .staged .within in
         omega (arith, a, b, c)
 
     pub input-bounds : (h .count ≤ length xv₁) × ((h .count ≤ length xt₁) × (h .count ≤ length xd₁))
     input-bounds =
-        let k : h .count ≤ 8192 = held-few in
+        let k : h .count ≤ most + most = held-few in
+        let r : most + most ≤ 8192 = twice-few in
         let a : length xv₁ ≡ 8192 = lxv ∙ x .long-xv in
         let b : length xt₁ ≡ 8192 = lxt ∙ x .long-xt in
         let c : length xd₁ ≡ 8192 = lxd ∙ x .long-xd in
-        (omega (arith, k, a), (omega (arith, k, b), omega (arith, k, c)))
+        (omega (arith, k, r, a), (omega (arith, k, r, b), omega (arith, k, r, c)))
 
     input-mass : mass natAbs (take (h .count) X₁) + mass natAbs (part (h .at) e X₁) ≤ 8192 * 2 ^ 31
     input-mass = let a = g .light in let b = x .staged .input-light in omega (arith, a, b)
@@ -214,17 +216,19 @@ module _ {e : ℕ} {sv st : List ℕ} {sd : List ℤ} {xv xt : List ℕ} {xd : L
     pub show-input : {iv₂ : List ℕ} → length iv₂ ≡ length iv → Shows (take (h .count - 0) xv₁) (take (h .count - 0) xt₁) (take (h .count - 0) xd₁) iv₂ id 0
     show-input {iv₂} li =
         let l = input-mass in
-        shows-front (h .count) xv₁ xt₁ xd₁ iv₂ id (lxv ∙ x .long-xv) (lxt ∙ x .long-xt) (lxd ∙ x .long-xd) (li ∙ x .sums .long-iv) (x .sums .long-id) held-few (g .held-ascends) (omega (arith, l))
+        let k : h .count ≤ most + most = held-few in
+        let r : most + most ≤ 8192 = twice-few in
+        shows-front (h .count) xv₁ xt₁ xd₁ iv₂ id (lxv ∙ x .long-xv) (lxt ∙ x .long-xt) (lxd ∙ x .long-xd) (li ∙ x .sums .long-iv) (x .sums .long-id) (omega arith) (omega (arith, k, r)) k (g .held-ascends) (omega (arith, l))
 
     module _ {u : Held} (uv₁ ut₁ : List ℕ) (ud₁ : List ℤ) (f : FromDone t m (w .out) (edits sv st sd) (w .output) (edits uv ut ud) (edits uv₁ ut₁ ud₁) u)
         (luv : length uv₁ ≡ length uv) (lut : length ut₁ ≡ length ut) (lud : length ud₁ ≡ length ud) where
       abbrev U₁ : List Edit
       U₁ = edits uv₁ ut₁ ud₁
 
-      output-few : u .count + (length S - u .at) ≤ 4096 + w .fixes
+      output-few : u .count + (length S - u .at) ≤ most + w .fixes
       output-few =
           let a : u .count + (length S - u .at) ≤ w .output + (length S - w .out) = f .fewer in
-          let b : w .output + (length S - w .out) ≤ 4096 + w .fixes = x .staged .output-few in
+          let b : w .output + (length S - w .out) ≤ most + w .fixes = x .staged .output-few in
           omega (arith, a, b)
 
       output-mass : mass natAbs (take (u .count) U₁) + mass natAbs (drop (u .at) S) ≤ (4096 + w .fixes) * 2 ^ 31
@@ -232,26 +236,27 @@ module _ {e : ℕ} {sv st : List ℕ} {sd : List ℤ} {xv xt : List ℕ} {xd : L
 
       pub output-bounds : (u .count ≤ length uv₁) × ((u .count ≤ length ut₁) × (u .count ≤ length ud₁))
       output-bounds =
-          let k : u .count + (length S - u .at) ≤ 4096 + w .fixes = output-few in
-          let z : w .fixes ≤ 4096 = x .staged .fits in
-          let a : length uv₁ ≡ 8192 = luv ∙ x .long-uv in
-          let b : length ut₁ ≡ 8192 = lut ∙ x .long-ut in
-          let c : length ud₁ ≡ 8192 = lud ∙ x .long-ud in
+          let k : u .count + (length S - u .at) ≤ most + w .fixes = output-few in
+          let z : w .fixes ≤ most = x .staged .fits in
+          let a : length uv₁ ≡ most + most = luv ∙ x .long-uv in
+          let b : length ut₁ ≡ most + most = lut ∙ x .long-ut in
+          let c : length ud₁ ≡ most + most = lud ∙ x .long-ud in
           (omega (arith, k, z, a), (omega (arith, k, z, b), omega (arith, k, z, c)))
 
       pub show-output : {ov₂ : List ℕ} {od₂ : List ℤ} → length ov₂ ≡ length ov → length od₂ ≡ length od → Shows (take (u .count - 0) uv₁) (take (u .count - 0) ut₁) (take (u .count - 0) ud₁) ov₂ od₂ 0
       show-output {ov₂} {od₂} lo ld =
           let l = output-mass in
-          let z : w .fixes ≤ 4096 = x .staged .fits in
-          let k : u .count + (length S - u .at) ≤ 4096 + w .fixes = output-few in
-          shows-front (u .count) uv₁ ut₁ ud₁ ov₂ od₂ (luv ∙ x .long-uv) (lut ∙ x .long-ut) (lud ∙ x .long-ud) (lo ∙ x .sums .long-ov) (ld ∙ x .sums .long-od) (omega (arith, k, z)) (f .held-ascends) (omega (arith, l, z))
+          let y : w .fixes ≤ most = x .staged .fits in
+          let z : w .fixes ≤ 4096 = fixes-few in
+          let k : u .count + (length S - u .at) ≤ most + w .fixes = output-few in
+          shows-front (u .count) uv₁ ut₁ ud₁ ov₂ od₂ (luv ∙ x .long-uv) (lut ∙ x .long-ut) (lud ∙ x .long-ud) (lo ∙ x .sums .long-ov) (ld ∙ x .sums .long-od) twice-few (omega (arith, k, y)) (omega (arith, k, y)) (f .held-ascends) (omega (arith, l, z))
 
       -- where the key stands after the round, with j edits of its output held and n corrections
       abbrev past-round : ℕ → Bool → ℕ → Bool → Stage
       past-round j c n l = record { held = h .count; at = h .at; output = j; out = u .at; crossed = c; fixes = n; large = l }
 
-      stands : (U₃ : List Edit) (j n : ℕ) (c l : Bool) → j + (length S - u .at) ≤ 4096 + n → mass natAbs (take j U₃) + mass natAbs (drop (u .at) S) ≤ (4096 + n) * 2 ^ 31 → n ≤ 4096
-          → Staged e S X₁ U₃ (past-round j c n l)
+      stands : (U₃ : List Edit) (j n : ℕ) (c l : Bool) → j + (length S - u .at) ≤ most + n → mass natAbs (take j U₃) + mass natAbs (drop (u .at) S) ≤ (4096 + n) * 2 ^ 31 → n ≤ most
+          → Staged most e S X₁ U₃ (past-round j c n l)
       stands U₃ j n c l few light fits = record {
         before = g .before;
         forth = g .forth;
@@ -286,31 +291,31 @@ module _ {e : ℕ} {sv st : List ℕ} {sd : List ℤ} {xv xt : List ℕ} {xd : L
         long-o : b ≡ length (seen t O)
         long-o = end-is seen-output
 
-        few-i : a ≤ 8192
+        few-i : a ≤ most + most
         few-i =
             let n : a ≡ length (seen t I) = long-i in
             let l : length (seen t I) ≤ length I = seen-length t I in
             let k : length (take (h .count) X₁) ≡ length I = ap length (g .held-is) in
             let j : length (take (h .count) X₁) ≤ h .count = take-few (h .count) X₁ in
-            let i : h .count ≤ 8192 = held-few in
+            let i : h .count ≤ most + most = held-few in
             omega (arith, n, l, k, j, i)
 
-        few-o : b ≤ 8192
+        few-o : b ≤ most + most
         few-o =
             let n : b ≡ length (seen t O) = long-o in
             let l : length (seen t O) ≤ length O = seen-length t O in
             let k : length (take (u .count) U₁) ≡ length O = ap length (f .held-is) in
             let j : length (take (u .count) U₁) ≤ u .count = take-few (u .count) U₁ in
-            let i : u .count + (length S - u .at) ≤ 4096 + w .fixes = output-few in
-            let z : w .fixes ≤ 4096 = x .staged .fits in
+            let i : u .count + (length S - u .at) ≤ most + w .fixes = output-few in
+            let z : w .fixes ≤ most = x .staged .fits in
             omega (arith, n, l, k, j, i, z)
 
         pub adds-fit : a + b < 2 ^ 64
-        adds-fit = let i : a ≤ 8192 = few-i in let o : b ≤ 8192 = few-o in omega (arith, i, o)
+        adds-fit = let i : a ≤ most + most = few-i in let o : b ≤ most + most = few-o in let r : most + most ≤ 8192 = twice-few in omega (arith, i, o, r)
 
         -- ---- where nothing is seen
         pub nothing-taken : (mode k : ℕ) → a + b ≡ 0
-            → TurnTaken mode k t m e (edits sv st sd) (edits xv xt xd) (edits uv ut ud) w (record { held = h .count; at = h .at; output = u .count; out = u .at; crossed = false; fixes = w .fixes; large = false })
+            → TurnTaken most mode k t m e (edits sv st sd) (edits xv xt xd) (edits uv ut ud) w (record { held = h .count; at = h .at; output = u .count; out = u .at; crossed = false; fixes = w .fixes; large = false })
             (edits xv₁ xt₁ xd₁) (edits uv₁ ut₁ ud₁) fk fv ft fd fk fv ft fd
         nothing-taken mode k n =
             let i : a ≡ length (seen t I) = long-i in
@@ -321,7 +326,7 @@ module _ {e : ℕ} {sv st : List ℕ} {sd : List ℤ} {xv xt : List ℕ} {xd : L
             record {
               crossed-is = sym y ∙ crossed-is mode I O t;
               listed = record {
-                large-is = sym (ap (rowsTooLarge (w .fixes)) rs ∙ not-large (w .fixes) (x .staged .fits));
+                large-is = sym (ap (rowsTooLarge most (w .fixes)) rs ∙ not-large (w .fixes) (x .staged .fits));
                 fixes-are = λ l. (let z : length (rowsIn k (roundAt mode I O t)) ≡ 0 = ap length rs in omega (arith, z));
                 rows-are = λ l. sym (ap (λ l. listed fk fv ft fd (w .fixes) ++ l) rs ∙ append-nil (listed fk fv ft fd (w .fixes)));
               };
@@ -334,22 +339,23 @@ module _ {e : ℕ} {sv st : List ℕ} {sd : List ℤ} {xv xt : List ℕ} {xd : L
 
         -- ---- what is seen
         pub fix-asks : {cv₂ : List ℕ} → length cv₂ ≡ length cv → length iv₃ ≡ length iv → length id₃ ≡ length id → length ov₃ ≡ length ov → length od₃ ≡ length od
-            → Fixes (take (a - 0) iv₃) (take (a - 0) id₃) (take (b - 0) ov₃) (take (b - 0) od₃) cv₂ cd fk fv ft fd (w .fixes)
+            → Fixes most (take (a - 0) iv₃) (take (a - 0) id₃) (take (b - 0) ov₃) (take (b - 0) od₃) cv₂ cd fk fv ft fd (w .fixes)
         fix-asks {cv₂} lc li ld lo lp =
-            let i : a ≤ 8192 = few-i in
-            let o : b ≤ 8192 = few-o in
-            let liv : length iv₃ ≡ 8192 = li ∙ x .sums .long-iv in
-            let lid : length id₃ ≡ 8192 = ld ∙ x .sums .long-id in
-            let lov : length ov₃ ≡ 8192 = lo ∙ x .sums .long-ov in
-            let lod : length od₃ ≡ 8192 = lp ∙ x .sums .long-od in
-            let lcv : length cv₂ ≡ 16384 = lc ∙ x .sums .long-cv in
+            let i : a ≤ most + most = few-i in
+            let o : b ≤ most + most = few-o in
+            let y : most + most ≤ 8192 = twice-few in
+            let liv : length iv₃ ≡ most + most = li ∙ x .sums .long-iv in
+            let lid : length id₃ ≡ most + most = ld ∙ x .sums .long-id in
+            let lov : length ov₃ ≡ most + most = lo ∙ x .sums .long-ov in
+            let lod : length od₃ ≡ most + most = lp ∙ x .sums .long-od in
+            let lcv : length cv₂ ≡ (most + most) + (most + most) = lc ∙ x .sums .long-cv in
             let tiv : length (take (a - 0) iv₃) ≡ a - 0 = length-take-le (a - 0) iv₃ (omega (arith, i, liv)) in
             let tid : length (take (a - 0) id₃) ≡ a - 0 = length-take-le (a - 0) id₃ (omega (arith, i, lid)) in
             let tov : length (take (b - 0) ov₃) ≡ b - 0 = length-take-le (b - 0) ov₃ (omega (arith, o, lov)) in
             let tod : length (take (b - 0) od₃) ≡ b - 0 = length-take-le (b - 0) od₃ (omega (arith, o, lod)) in
             let mi = input-mass in
             let mo = output-mass in
-            let z : w .fixes ≤ 4096 = x .staged .fits in
+            let z : w .fixes ≤ 4096 = fixes-few in
             let hi : mass natAbs (take (h .count) X₁) ≤ 8192 * 2 ^ 31 = omega (arith, mi) in
             let ho : mass natAbs (take (u .count) U₁) ≤ 8192 * 2 ^ 31 = omega (arith, mo, z) in
             record {
@@ -363,21 +369,22 @@ module _ {e : ℕ} {sv st : List ℕ} {sd : List ℤ} {xv xt : List ℕ} {xd : L
                   canon-o = subst (Canon ltb) (sym (held-entries seen-output)) (canon-seen t O);
                   small-o = subst (All modest) (sym (held-diffs seen-output)) (seen-modest t O (subst (λ (es : List Edit). mass natAbs es ≤ 8192 * 2 ^ 31) (f .held-is) ho));
                 };
-                short = omega (arith, tid, i);
+                short = omega (arith, tid, i, y);
                 small-i = subst (All modest) (sym (held-diffs seen-input)) (seen-modest t I (subst (λ (es : List Edit). mass natAbs es ≤ 8192 * 2 ^ 31) (g .held-is) hi));
               };
               lent = x .lent;
-              fits = z;
+              fits = x .staged .fits;
+              few = x .room-few;
             }
 
         -- ---- the correction
         module _ (n : a + b ≡ 0 → ⊥) (mode : ℕ) {k : ℕ} {cv₂ cv₃ : List ℕ} {cd₃ : List ℤ} {r : Fixed} {fk₃ fv₃ ft₃ : List ℕ} {fd₃ : List ℤ}
-            (F : FixedAt k t (correction mode (entries (take (a - 0) iv₃) (take (a - 0) id₃)) (entries (take (b - 0) ov₃) (take (b - 0) od₃))) cv₂ cd (w .fixes) r cv₃ cd₃ fk fv ft fd fk₃ fv₃ ft₃ fd₃) where
+            (F : FixedAt most k t (correction mode (entries (take (a - 0) iv₃) (take (a - 0) id₃)) (entries (take (b - 0) ov₃) (take (b - 0) od₃))) cv₂ cd (w .fixes) r cv₃ cd₃ fk fv ft fd fk₃ fv₃ ft₃ fd₃) where
           abbrev C : Sums
           C = correction mode (seen t I) (seen t O)
 
-          fixed : FixedAt k t (correction mode (seen t (inputNow t m e (edits xv xt xd) w)) (seen t (outputNow t m (edits sv st sd) (edits uv ut ud) w))) cv₂ cd (w .fixes) r cv₃ cd₃ fk fv ft fd fk₃ fv₃ ft₃ fd₃
-          fixed = subst (λ (c : Sums). FixedAt k t c cv₂ cd (w .fixes) r cv₃ cd₃ fk fv ft fd fk₃ fv₃ ft₃ fd₃) (λ z. correction mode (held-entries seen-input z) (held-entries seen-output z)) F
+          fixed : FixedAt most k t (correction mode (seen t (inputNow t m e (edits xv xt xd) w)) (seen t (outputNow t m (edits sv st sd) (edits uv ut ud) w))) cv₂ cd (w .fixes) r cv₃ cd₃ fk fv ft fd fk₃ fv₃ ft₃ fd₃
+          fixed = subst (λ (c : Sums). FixedAt most k t c cv₂ cd (w .fixes) r cv₃ cd₃ fk fv ft fd fk₃ fv₃ ft₃ fd₃) (λ z. correction mode (held-entries seen-input z) (held-entries seen-output z)) F
 
           crossing : crosses (seen t I) (seen t O) ≡ true
           crossing =
@@ -389,11 +396,11 @@ module _ {e : ℕ} {sv st : List ℕ} {sd : List ℤ} {xv xt : List ℕ} {xd : L
           rows-are = fix-rows k mode I O t crossing
 
           pub large-taken : r .large ≡ true
-              → TurnTaken mode k t m e (edits sv st sd) (edits xv xt xd) (edits uv ut ud) w (record { held = h .count; at = h .at; output = u .count; out = u .at; crossed = true; fixes = w .fixes; large = true })
+              → TurnTaken most mode k t m e (edits sv st sd) (edits xv xt xd) (edits uv ut ud) w (record { held = h .count; at = h .at; output = u .count; out = u .at; crossed = true; fixes = w .fixes; large = true })
               (edits xv₁ xt₁ xd₁) (edits uv₁ ut₁ ud₁) fk fv ft fd fk₃ fv₃ ft₃ fd₃
           large-taken l = record {
             crossed-is = sym crossing ∙ crossed-is mode I O t;
-            listed = record { large-is = sym l ∙ fixed .listed .large-is ∙ ap (rowsTooLarge (w .fixes)) rows-are; fixes-are = λ z. clash true refl z; rows-are = λ z. clash true refl z };
+            listed = record { large-is = sym l ∙ fixed .listed .large-is ∙ ap (rowsTooLarge most (w .fixes)) rows-are; fixes-are = λ z. clash true refl z; rows-are = λ z. clash true refl z };
             held-is = g .held-is;
             ahead-is = g .ahead-is;
             output-is = λ z. clash true refl z;
@@ -405,22 +412,22 @@ module _ {e : ℕ} {sv st : List ℕ} {sd : List ℤ} {xv xt : List ℕ} {xd : L
           count-is = end-is (fixed .corrected)
 
           module _ (l : r .large ≡ false) where
-            small : rowsTooLarge (w .fixes) (fixRows k t C) ≡ false
+            small : rowsTooLarge most (w .fixes) (fixRows k t C) ≡ false
             small = sym (fixed .listed .large-is) ∙ l
 
-            room-left : w .fixes + length C ≤ 4096
-            room-left = fixes-fit (w .fixes) k t C small
+            room-left : w .fixes + length C ≤ most
+            room-left = fixes-fit most (w .fixes) k t C small
 
             pub date-asks : length cv₃ ≡ length cv → length cd₃ ≡ length cd → Dates (take (r .count - 0) cv₃) (take (r .count - 0) cd₃) uv₁ ut₁ ud₁ (u .count)
             date-asks lc ld =
                 let j : r .count ≡ length C = count-is in
-                let z : w .fixes + length C ≤ 4096 = room-left in
-                let lcv : length cv₃ ≡ 16384 = lc ∙ x .sums .long-cv in
-                let lcd : length cd₃ ≡ 16384 = ld ∙ x .sums .long-cd in
+                let z : w .fixes + length C ≤ most = room-left in
+                let lcv : length cv₃ ≡ (most + most) + (most + most) = lc ∙ x .sums .long-cv in
+                let lcd : length cd₃ ≡ (most + most) + (most + most) = ld ∙ x .sums .long-cd in
                 let tcv : length (take (r .count - 0) cv₃) ≡ r .count - 0 = length-take-le (r .count - 0) cv₃ (omega (arith, j, z, lcv)) in
                 let tcd : length (take (r .count - 0) cd₃) ≡ r .count - 0 = length-take-le (r .count - 0) cd₃ (omega (arith, j, z, lcd)) in
-                let v : length uv₁ ≡ 8192 = luv ∙ x .long-uv in
-                let i : u .count + (length S - u .at) ≤ 4096 + w .fixes = output-few in
+                let v : length uv₁ ≡ most + most = luv ∙ x .long-uv in
+                let i : u .count + (length S - u .at) ≤ most + w .fixes = output-few in
                 record {
                   same-c = tcd ∙ sym tcv;
                   same-t = lut ∙ x .long-ut ∙ sym v;
@@ -429,26 +436,26 @@ module _ {e : ℕ} {sv st : List ℕ} {sd : List ℤ} {xv xt : List ℕ} {xd : L
                 }
 
             pub fixed-taken : (uv₃ ut₃ : List ℕ) (ud₃ : List ℤ) {j : ℕ} → Rows uv₁ ut₁ ud₁ (u .count) (dated t (entries (take (r .count - 0) cv₃) (take (r .count - 0) cd₃))) uv₃ ut₃ ud₃ j
-                → TurnTaken mode k t m e (edits sv st sd) (edits xv xt xd) (edits uv ut ud) w (record { held = h .count; at = h .at; output = j; out = u .at; crossed = true; fixes = r .fixes; large = false })
+                → TurnTaken most mode k t m e (edits sv st sd) (edits xv xt xd) (edits uv ut ud) w (record { held = h .count; at = h .at; output = j; out = u .at; crossed = true; fixes = r .fixes; large = false })
                 (edits xv₁ xt₁ xd₁) (edits uv₃ ut₃ ud₃) fk fv ft fd fk₃ fv₃ ft₃ fd₃
             fixed-taken uv₃ ut₃ ud₃ {j} d₀ =
                 let d : Rows uv₁ ut₁ ud₁ (u .count) (dated t C) uv₃ ut₃ ud₃ j = subst (λ (c : Sums). Rows uv₁ ut₁ ud₁ (u .count) (dated t c) uv₃ ut₃ ud₃ j) (held-entries (fixed .corrected)) d₀ in
-                let v : length uv₁ ≡ 8192 = luv ∙ x .long-uv in
+                let v : length uv₁ ≡ most + most = luv ∙ x .long-uv in
                 let o : take j (edits uv₃ ut₃ ud₃) ≡ take (u .count) U₁ ++ dated t C = rows-front (lut ∙ x .long-ut ∙ sym v) (lud ∙ x .long-ud ∙ sym v) d in
                 let je : j ≡ u .count + length (map valueOf (dated t C)) = d .values .end in
                 let jm : length (map valueOf (dated t C)) ≡ length (dated t C) = length-map (dated t C) valueOf in
                 let jl : length (dated t C) ≡ length C = dated-length t C in
                 let nf : r .fixes ≡ w .fixes + length (fixRows k t C) = fixed .listed .fixes-are l in
                 let nl : length (fixRows k t C) ≡ length C = rows-length k t C in
-                let z : w .fixes + length C ≤ 4096 = room-left in
-                let i : u .count + (length S - u .at) ≤ 4096 + w .fixes = output-few in
+                let z : w .fixes + length C ≤ most = room-left in
+                let i : u .count + (length S - u .at) ≤ most + w .fixes = output-few in
                 let mo : mass natAbs (take (u .count) U₁) + mass natAbs (drop (u .at) S) ≤ (4096 + w .fixes) * 2 ^ 31 = output-mass in
-                let md : mass natAbs (dated t C) ≤ length C * 2 ^ 31 = dated-mass k t (w .fixes) C small in
+                let md : mass natAbs (dated t C) ≤ length C * 2 ^ 31 = dated-mass most k t (w .fixes) C small in
                 let ma : mass natAbs (take j (edits uv₃ ut₃ ud₃)) ≡ mass natAbs (take (u .count) U₁) + mass natAbs (dated t C) = ap (mass natAbs) o ∙ mass-append natAbs (take (u .count) U₁) (dated t C) in
                 record {
                   crossed-is = sym crossing ∙ crossed-is mode I O t;
                   listed = record {
-                    large-is = sym l ∙ fixed .listed .large-is ∙ ap (rowsTooLarge (w .fixes)) rows-are;
+                    large-is = sym l ∙ fixed .listed .large-is ∙ ap (rowsTooLarge most (w .fixes)) rows-are;
                     fixes-are = λ y. fixed .listed .fixes-are l ∙ ap (λ rs. w .fixes + length rs) rows-are;
                     rows-are = λ y. fixed .listed .rows-are l ∙ ap (λ rs. listed fk fv ft fd (w .fixes) ++ rs) rows-are;
                   };

@@ -6,7 +6,7 @@ use marks::mark;
 use progress::goes_on;
 use times::KeyHash;
 use times::PackedTime;
-ghost use lib.ListN.{take};
+ghost use lib.ListN.{length, take};
 ghost use Rattle.moments.specs.Present.{edits};
 ghost use Rattle.fixing.specs.Settle.{KeySettled};
 ghost use Rattle.replay.specs.Replay.{RoundsAsk};
@@ -40,8 +40,8 @@ pub fn replay_rounds(
     fd: &mut [i64],
     fixes: usize,
 ) -> Settled
-    requires { ⌜ RoundsAsk (now moments) (now far) e (now sv) (now st) (now sd) (now xv) (now xt) (now xd) (now uv) (now ut) (now ud) (now iv) (now id) (now ov) (now od) (now cv) (now cd) (now marks) (now fk) (now fv) (now ft) (now fd) fixes ⌝ }
-    ensures { λ r. ⌜ KeySettled mode (key .0) (take e (edits (now (xv .entry)) (now (xt .entry)) (now (xd .entry)))) (edits (now (sv .entry)) (now (st .entry)) (now (sd .entry))) (now (moments .entry)) fixes r (now (marks .entry)) (now (marks .exit)) (now (fk .entry)) (now (fv .entry)) (now (ft .entry)) (now (fd .entry)) (now (fk .exit)) (now (fv .exit)) (now (ft .exit)) (now (fd .exit)) ⌝ }
+    requires { ⌜ RoundsAsk (length (now fk)) (now moments) (now far) e (now sv) (now st) (now sd) (now xv) (now xt) (now xd) (now uv) (now ut) (now ud) (now iv) (now id) (now ov) (now od) (now cv) (now cd) (now marks) (now fk) (now fv) (now ft) (now fd) fixes ⌝ }
+    ensures { λ r. ⌜ KeySettled (length (now (fk .entry))) mode (key .0) (take e (edits (now (xv .entry)) (now (xt .entry)) (now (xd .entry)))) (edits (now (sv .entry)) (now (st .entry)) (now (sd .entry))) (now (moments .entry)) fixes r (now (marks .entry)) (now (marks .exit)) (now (fk .entry)) (now (fv .entry)) (now (ft .entry)) (now (fd .entry)) (now (fk .exit)) (now (fv .exit)) (now (ft .exit)) (now (fd .exit)) ⌝ }
 {
     let mut j = 0;
     let mut w = Stage {

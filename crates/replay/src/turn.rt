@@ -7,6 +7,7 @@ use gather::gather_within;
 use moments::present;
 use times::KeyHash;
 use times::PackedTime;
+ghost use lib.ListN.{length};
 ghost use Rattle.moments.specs.Present.{edits};
 ghost use Rattle.replay.specs.Replay.{TurnAsks, TurnTaken};
 
@@ -39,8 +40,8 @@ pub fn turn_replayed(
     fd: &mut [i64],
     w: Stage,
 ) -> Stage
-    requires { ⌜ TurnAsks e (now sv) (now st) (now sd) (now xv) (now xt) (now xd) (now uv) (now ut) (now ud) (now iv) (now id) (now ov) (now od) (now cv) (now cd) (now fk) (now fv) (now ft) (now fd) w ⌝ }
-    ensures { λ r. ⌜ TurnTaken mode (key .0) (t .0) (m .0) e (edits (now (sv .entry)) (now (st .entry)) (now (sd .entry))) (edits (now (xv .entry)) (now (xt .entry)) (now (xd .entry))) (edits (now (uv .entry)) (now (ut .entry)) (now (ud .entry))) w r (edits (now (xv .exit)) (now (xt .exit)) (now (xd .exit))) (edits (now (uv .exit)) (now (ut .exit)) (now (ud .exit))) (now (fk .entry)) (now (fv .entry)) (now (ft .entry)) (now (fd .entry)) (now (fk .exit)) (now (fv .exit)) (now (ft .exit)) (now (fd .exit)) ⌝ }
+    requires { ⌜ TurnAsks (length (now fk)) e (now sv) (now st) (now sd) (now xv) (now xt) (now xd) (now uv) (now ut) (now ud) (now iv) (now id) (now ov) (now od) (now cv) (now cd) (now fk) (now fv) (now ft) (now fd) w ⌝ }
+    ensures { λ r. ⌜ TurnTaken (length (now (fk .entry))) mode (key .0) (t .0) (m .0) e (edits (now (sv .entry)) (now (st .entry)) (now (sd .entry))) (edits (now (xv .entry)) (now (xt .entry)) (now (xd .entry))) (edits (now (uv .entry)) (now (ut .entry)) (now (ud .entry))) w r (edits (now (xv .exit)) (now (xt .exit)) (now (xd .exit))) (edits (now (uv .exit)) (now (ut .exit)) (now (ud .exit))) (now (fk .entry)) (now (fv .entry)) (now (ft .entry)) (now (fd .entry)) (now (fk .exit)) (now (fv .exit)) (now (ft .exit)) (now (fd .exit)) ⌝ }
 {
     let x = gather_within(t, m, w.at, e, w.held, xv, xt, xd, cv, iv, ov, od);
     let u = gather_from(

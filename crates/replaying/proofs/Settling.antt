@@ -4,14 +4,14 @@
 -- replay-asks: what settling a key's rounds asks. replay-more: once that is done, the keys after it are left
 use Prim.Native.Nat.{ℕ, _+_}
 use mathlib.Core.Bool.{true, _&&_, not}
-use mathlib.Core.Path.{_≡_, refl, _∙_}
+use mathlib.Core.Path.{_≡_, refl, sym, _∙_, subst}
 use mathlib.Core.List.{List}
 use lib.Dec.{ltb}
 use lib.IntN.{ℤ, pos}
 use lib.ListN.{length, getD, replicate, length-replicate}
 use Rattle.grid.specs.Records.{mostRecords}
 use Rattle.rules.specs.Discover.{mostMoments}
-use Rattle.backends.specs.Crossing.{part}
+use Rattle.backends.specs.Segments.{part}
 use Rattle.moments.specs.Present.{edits}
 use Rattle.fixing.specs.Settle.{KeySettled}
 use Rattle.fixing.specs.Windows.{LentRounds}
@@ -53,9 +53,9 @@ loads-again l hfar hyv hyt hyd hzv hzt hzd = record {
 }
 
 -- ---- a key
-module _ {mode : ℕ} {keys moments mends fs es tv tt : List ℕ} {td : List ℤ} {ofs oes xv xt : List ℕ} {xd : List ℤ} {n : ℕ} {uv₀ ut₀ : List ℕ} {ud₀ : List ℤ} {iv₀ : List ℕ} {id₀ : List ℤ} {ov₀ : List ℕ} {od₀ : List ℤ} {cv₀ : List ℕ} {cd₀ : List ℤ} {marks₀ fk₀ fv₀ ft₀ : List ℕ} {fd₀ : List ℤ}
+module _ {most mode : ℕ} {keys moments mends fs es tv tt : List ℕ} {td : List ℤ} {ofs oes xv xt : List ℕ} {xd : List ℤ} {n : ℕ} {uv₀ ut₀ : List ℕ} {ud₀ : List ℤ} {iv₀ : List ℕ} {id₀ : List ℤ} {ov₀ : List ℕ} {od₀ : List ℤ} {cv₀ : List ℕ} {cd₀ : List ℤ} {marks₀ fk₀ fv₀ ft₀ : List ℕ} {fd₀ : List ℤ}
     {uv ut : List ℕ} {ud : List ℤ} {iv : List ℕ} {id : List ℤ} {ov : List ℕ} {od : List ℤ} {cv : List ℕ} {cd : List ℤ} {marks fk fv ft : List ℕ} {fd : List ℤ} {b g : ℕ} {r : Settled}
-    (m : Slotting mode keys moments mends fs es tv tt td ofs oes xv xt xd n uv₀ ut₀ ud₀ iv₀ id₀ ov₀ od₀ cv₀ cd₀ marks₀ fk₀ fv₀ ft₀ fd₀ uv ut ud iv id ov od cv cd marks fk fv ft fd b g r) (t : (not (r .large) && ltb b (length keys)) ≡ true) where
+    (m : Slotting most mode keys moments mends fs es tv tt td ofs oes xv xt xd n uv₀ ut₀ ud₀ iv₀ id₀ ov₀ od₀ cv₀ cd₀ marks₀ fk₀ fv₀ ft₀ fd₀ uv ut ud iv id ov od cv cd marks fk fv ft fd b g r) (t : (not (r .large) && ltb b (length keys)) ≡ true) where
   abbrev f : ℕ
   f = getD fs b 0
 
@@ -69,10 +69,11 @@ module _ {mode : ℕ} {keys moments mends fs es tv tt : List ℕ} {td : List ℤ
   oe = getD oes b 0
 
   pub replay-asks : {far yv yt : List ℕ} {yd : List ℤ} {zv zt : List ℕ} {zd : List ℤ} → Loads far yv yt yd zv zt zd
-      → KeyAsks (part g (getD mends b 0) moments) (part f e tv) (part f e tt) (part f e td) (part of oe xv) (part of oe xt) (part of oe xd) far yv yt yd zv zt zd × LentRounds uv ut ud iv id ov od cv cd marks fk fv ft fd (r .fixes)
-  replay-asks l =
+      → KeyAsks (length fk) (part g (getD mends b 0) moments) (part f e tv) (part f e tt) (part f e td) (part of oe xv) (part of oe xt) (part of oe xd) far yv yt yd zv zt zd × LentRounds (length fk) uv ut ud iv id ov od cv cd marks fk fv ft fd (r .fixes)
+  replay-asks {far} {yv} {yt} {yd} {zv} {zt} {zd} l =
       let i = slot-laid m t in
-      let o = slot-out m t in (
+      let o = slot-out m t in
+      subst (λ (i : ℕ). KeyAsks i (part g (getD mends b 0) moments) (part f e tv) (part f e tt) (part f e td) (part of oe xv) (part of oe xt) (part of oe xd) far yv yt yd zv zt zd × LentRounds i uv ut ud iv id ov od cv cd marks fk fv ft fd (r .fixes)) (sym (m .lent .lent .long-k)) (
         record {
           few = slot-moments m t .1 .1;
           same-t = i .0;
@@ -95,8 +96,10 @@ module _ {mode : ℕ} {keys moments mends fs es tv tt : List ℕ} {td : List ℤ
       )
 
   pub replay-more : {uv′ ut′ : List ℕ} {ud′ : List ℤ} {iv′ : List ℕ} {id′ : List ℤ} {ov′ : List ℕ} {od′ : List ℤ} {cv′ : List ℕ} {cd′ : List ℤ} {marks′ fk′ fv′ ft′ : List ℕ} {fd′ : List ℤ} {q : Settled}
-      → KeySettled mode (getD keys b 0) (edits (part f e tv) (part f e tt) (part f e td)) (edits (part of oe xv) (part of oe xt) (part of oe xd)) (part g (getD mends b 0) moments) (r .fixes) q marks marks′ fk fv ft fd fk′ fv′ ft′ fd′
+      → KeySettled (length fk) mode (getD keys b 0) (edits (part f e tv) (part f e tt) (part f e td)) (edits (part of oe xv) (part of oe xt) (part of oe xd)) (part g (getD mends b 0) moments) (r .fixes) q marks marks′ fk fv ft fd fk′ fv′ ft′ fd′
       → length uv′ ≡ length uv → length ut′ ≡ length ut → length ud′ ≡ length ud → length iv′ ≡ length iv → length id′ ≡ length id → length ov′ ≡ length ov → length od′ ≡ length od → length cv′ ≡ length cv → length cd′ ≡ length cd → length marks′ ≡ length marks → length fk′ ≡ length fk → length fv′ ≡ length fv → length ft′ ≡ length ft → length fd′ ≡ length fd
-      → Slotting mode keys moments mends fs es tv tt td ofs oes xv xt xd n uv₀ ut₀ ud₀ iv₀ id₀ ov₀ od₀ cv₀ cd₀ marks₀ fk₀ fv₀ ft₀ fd₀ uv′ ut′ ud′ iv′ id′ ov′ od′ cv′ cd′ marks′ fk′ fv′ ft′ fd′ (b + 1) (getD mends b 0) q
-  replay-more d huv hut hud hiv hid hov hod hcv hcd hmarks hfk hfv hft hfd = slotting-more m t (edits (part of oe xv) (part of oe xt) (part of oe xd)) refl d
+      → Slotting most mode keys moments mends fs es tv tt td ofs oes xv xt xd n uv₀ ut₀ ud₀ iv₀ id₀ ov₀ od₀ cv₀ cd₀ marks₀ fk₀ fv₀ ft₀ fd₀ uv′ ut′ ud′ iv′ id′ ov′ od′ cv′ cd′ marks′ fk′ fv′ ft′ fd′ (b + 1) (getD mends b 0) q
+  replay-more {marks′ = marks′} {fk′} {fv′} {ft′} {fd′} {q} d huv hut hud hiv hid hov hod hcv hcd hmarks hfk hfv hft hfd =
+      slotting-more m t (edits (part of oe xv) (part of oe xt) (part of oe xd)) refl
+      (subst (λ (i : ℕ). KeySettled i mode (getD keys b 0) (edits (part f e tv) (part f e tt) (part f e td)) (edits (part of oe xv) (part of oe xt) (part of oe xd)) (part g (getD mends b 0) moments) (r .fixes) q marks marks′ fk fv ft fd fk′ fv′ ft′ fd′) (m .lent .lent .long-k) d)
       (lent-again (m .lent) huv hut hud hiv hid hov hod hcv hcd hmarks hfk hfv hft hfd)

@@ -3,6 +3,7 @@ use fixing::Settled;
 use gather::load_key;
 use replay::replay_rounds;
 use times::KeyHash;
+ghost use lib.ListN.{length};
 ghost use Rattle.moments.specs.Present.{edits};
 ghost use Rattle.fixing.specs.Settle.{KeySettled};
 ghost use Rattle.fixing.specs.Windows.{LentRounds};
@@ -42,8 +43,8 @@ pub fn replay_key(
     fd: &mut [i64],
     fixes: usize,
 ) -> Settled
-    requires { ⌜ KeyAsks (now moments) (now values) (now times) (now diffs) (now outvalues) (now outtimes) (now outdiffs) (now far) (now xv) (now xt) (now xd) (now sv) (now st) (now sd) × LentRounds (now uv) (now ut) (now ud) (now iv) (now id) (now ov) (now od) (now cv) (now cd) (now marks) (now fk) (now fv) (now ft) (now fd) fixes ⌝ }
-    ensures { λ r. ⌜ KeySettled mode (key .0) (edits (now (values .entry)) (now (times .entry)) (now (diffs .entry))) (edits (now (outvalues .entry)) (now (outtimes .entry)) (now (outdiffs .entry))) (now (moments .entry)) fixes r (now (marks .entry)) (now (marks .exit)) (now (fk .entry)) (now (fv .entry)) (now (ft .entry)) (now (fd .entry)) (now (fk .exit)) (now (fv .exit)) (now (ft .exit)) (now (fd .exit)) ⌝ }
+    requires { ⌜ KeyAsks (length (now fk)) (now moments) (now values) (now times) (now diffs) (now outvalues) (now outtimes) (now outdiffs) (now far) (now xv) (now xt) (now xd) (now sv) (now st) (now sd) × LentRounds (length (now fk)) (now uv) (now ut) (now ud) (now iv) (now id) (now ov) (now od) (now cv) (now cd) (now marks) (now fk) (now fv) (now ft) (now fd) fixes ⌝ }
+    ensures { λ r. ⌜ KeySettled (length (now (fk .entry))) mode (key .0) (edits (now (values .entry)) (now (times .entry)) (now (diffs .entry))) (edits (now (outvalues .entry)) (now (outtimes .entry)) (now (outdiffs .entry))) (now (moments .entry)) fixes r (now (marks .entry)) (now (marks .exit)) (now (fk .entry)) (now (fv .entry)) (now (ft .entry)) (now (fd .entry)) (now (fk .exit)) (now (fv .exit)) (now (ft .exit)) (now (fd .exit)) ⌝ }
 {
     if moments.len() == 0 {
         return Settled {

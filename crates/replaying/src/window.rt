@@ -4,7 +4,7 @@ use fixing::Settled;
 use progress::goes_on;
 use times::KeyHash;
 ghost use lib.ListN.{length};
-ghost use Rattle.backends.specs.Crossing.{segments};
+ghost use Rattle.backends.specs.Segments.{segments};
 ghost use Rattle.moments.specs.Present.{edits};
 ghost use Rattle.moments.specs.Window.{partsOf};
 ghost use Rattle.slots.specs.Slots.{slotsOf};
@@ -43,8 +43,8 @@ pub fn settle_replayed(
     fd: &mut [i64],
     fixes: usize,
 ) -> Settled
-    requires { ⌜ Slotted (length (now keys)) (now moments) (now mends) (now from) (now to) (now tv) (now tt) (now td) (now ofrom) (now oto) (now outvalues) (now outtimes) (now outdiffs) × LentRounds (now uv) (now ut) (now ud) (now iv) (now id) (now ov) (now od) (now cv) (now cd) (now marks) (now fk) (now fv) (now ft) (now fd) fixes ⌝ }
-    ensures { λ r. ⌜ WindowSettled mode (slotsOf (now (keys .entry)) (partsOf (now (from .entry)) (now (to .entry)) (edits (now (tv .entry)) (now (tt .entry)) (now (td .entry)))) (partsOf (now (ofrom .entry)) (now (oto .entry)) (edits (now (outvalues .entry)) (now (outtimes .entry)) (now (outdiffs .entry)))) (segments 0 (now (mends .entry)) (now (moments .entry)))) fixes r (now (marks .entry)) (now (marks .exit)) (now (fk .entry)) (now (fv .entry)) (now (ft .entry)) (now (fd .entry)) (now (fk .exit)) (now (fv .exit)) (now (ft .exit)) (now (fd .exit)) ⌝ }
+    requires { ⌜ Slotted (length (now fk)) (length (now keys)) (now moments) (now mends) (now from) (now to) (now tv) (now tt) (now td) (now ofrom) (now oto) (now outvalues) (now outtimes) (now outdiffs) × LentRounds (length (now fk)) (now uv) (now ut) (now ud) (now iv) (now id) (now ov) (now od) (now cv) (now cd) (now marks) (now fk) (now fv) (now ft) (now fd) fixes ⌝ }
+    ensures { λ r. ⌜ WindowSettled (length (now (fk .entry))) mode (slotsOf (now (keys .entry)) (partsOf (now (from .entry)) (now (to .entry)) (edits (now (tv .entry)) (now (tt .entry)) (now (td .entry)))) (partsOf (now (ofrom .entry)) (now (oto .entry)) (edits (now (outvalues .entry)) (now (outtimes .entry)) (now (outdiffs .entry)))) (segments 0 (now (mends .entry)) (now (moments .entry)))) fixes r (now (marks .entry)) (now (marks .exit)) (now (fk .entry)) (now (fv .entry)) (now (ft .entry)) (now (fd .entry)) (now (fk .exit)) (now (fv .exit)) (now (ft .exit)) (now (fd .exit)) ⌝ }
 {
     let mut far = [0u64; 1024];
     let mut xv = [0u64; 8192];

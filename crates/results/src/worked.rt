@@ -1,13 +1,9 @@
 // The answer of a call, written to result memory.
 use crate::fixes::publish_fixes;
 use placing::clear_results;
-use placing::clear_three;
 use placing::publish_lists;
 use placing::publish_tiles;
-ghost use mathlib.Core.List.{[], _∷_};
-ghost use mathlib.Core.Path.{_≡_};
 ghost use lib.ListN.{take};
-ghost use Rattle.placing.specs.Parts.{emptied};
 ghost use Rattle.results.specs.Told.{Ready, Published};
 
 // How many entries of result memory are used.
@@ -19,7 +15,7 @@ pub struct Counts {
 }
 
 // Writes the answer of a call that worked: the first n corrections, in any order, the first m pending entries, ascending, and the next frontier.
-// The scratch (out, places, work) is zero afterwards.
+// The scratch (out, places, work) means nothing afterwards.
 pub fn publish(
     keys: &[u64],
     values: &[u64],
@@ -41,13 +37,11 @@ pub fn publish(
 ) -> Counts
     requires { ⌜ Ready (now keys) (now values) (now times) (now diffs) n (now pendkeys) (now pendtimes) m (now frontier) (now lower) (now upper) (now held) (now out) (now places) (now work) (now res) (now rd) ⌝ }
     ensures { λ r. ⌜ Published (take n (now (keys .entry))) (take n (now (values .entry))) (take n (now (times .entry))) (take n (now (diffs .entry))) (take m (now (pendkeys .entry))) (take m (now (pendtimes .entry))) (now (frontier .entry)) (now (lower .entry)) (now (upper .entry)) (now (held .entry)) (now (res .entry)) (now (res .exit)) (now (rd .entry)) (now (rd .exit)) r ⌝ }
-    ensures { λ _. ⌜ now (out .exit) ∷ now (places .exit) ∷ now (work .exit) ∷ [] ≡ emptied (now (out .entry) ∷ now (places .entry) ∷ now (work .entry) ∷ []) ⌝ }
 {
     clear_results(res, rd);
     let count = publish_tiles(lower, upper, held, times, n, out, res);
     publish_fixes(out, keys, values, times, diffs, n, places, work, res, rd);
     publish_lists(&pendkeys[0..m], &pendtimes[0..m], frontier, res);
-    clear_three(out, places, work);
     Counts {
         tiles: count,
         fixes: n,

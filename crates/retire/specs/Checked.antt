@@ -6,7 +6,7 @@ use mathlib.Core.Bool.{cond}
 use mathlib.Core.Path.{_≡_}
 use Rattle.rules.specs.Call.{verdict}
 use Rattle.rules.specs.Memory.{Lent, lentWell, requestOf}
-use Rattle.demands.specs.Lending.{sizes}
+use Rattle.demands.specs.Lending.{needed}
 
 pub record Checked (l : Lent) (s : ℕ) : Type 0 where
-  pub status-is : s ≡ cond (lentWell sizes l) (verdict (requestOf l)) 11
+  pub status-is : s ≡ cond (lentWell (needed l) l) (verdict (requestOf l)) 11

@@ -1,15 +1,15 @@
 // The public call.
 use answers::Outcome;
 use checks::status_before_work;
-use demands::COLUMN_SIZE;
-use demands::MOMENTS_SIZE;
+use demands::column_needed;
+use demands::moments_needed;
 use idle::stay_idle;
 use results::DIFFS_SIZE;
 use results::NUMBERS_SIZE;
 use working::work;
 ghost use Rattle.checks.specs.Checks.{columns};
 ghost use Rattle.demands.specs.Answers.{Retires};
-ghost use Rattle.demands.specs.Lending.{sizes, memory, lent};
+ghost use Rattle.demands.specs.Lending.{needed, memory, lent};
 ghost use Rattle.retire.specs.Checked.{Checked};
 
 // The status before any work.
@@ -46,18 +46,9 @@ fn check(
 ) -> u64
     ensures { λ r. ⌜ Checked (lent mode width (now (lower .entry)) (now (upper .entry)) (now (held .entry)) (columns (now (oldkeys .entry)) (now (oldvalues .entry)) (now (oldtimes .entry)) (now (olddiffs .entry))) (columns (now (newkeys .entry)) (now (newvalues .entry)) (now (newtimes .entry)) (now (newdiffs .entry))) (columns (now (outkeys .entry)) (now (outvalues .entry)) (now (outtimes .entry)) (now (outdiffs .entry))) (now (pendingkeys .entry)) (now (pendingtimes .entry)) (memory (now (res .entry)) (now (rd .entry)) (now (moments .entry)) (now (tk .entry)) (now (tv .entry)) (now (tt .entry)) (now (uv .entry)) (now (ut .entry)) (now (td .entry)) (now (ud .entry)))) r ⌝ }
 {
-    let sizes = [
-        NUMBERS_SIZE,
-        DIFFS_SIZE,
-        MOMENTS_SIZE,
-        COLUMN_SIZE,
-        COLUMN_SIZE,
-        COLUMN_SIZE,
-        COLUMN_SIZE,
-        COLUMN_SIZE,
-        COLUMN_SIZE,
-        COLUMN_SIZE,
-    ];
+    let n = column_needed(oldkeys.len(), newkeys.len());
+    let m = moments_needed(width, oldkeys.len(), newkeys, pendingkeys);
+    let sizes = [NUMBERS_SIZE, DIFFS_SIZE, m, n, n, n, n, n, n, n];
     let lengths = [
         res.len(),
         rd.len(),
@@ -129,7 +120,7 @@ pub fn retire(
     td: &mut [i64],
     ud: &mut [i64],
 ) -> Outcome
-    ensures { λ r. ⌜ Retires sizes (lent mode width (now (lower .entry)) (now (upper .entry)) (now (held .entry)) (columns (now (oldkeys .entry)) (now (oldvalues .entry)) (now (oldtimes .entry)) (now (olddiffs .entry))) (columns (now (newkeys .entry)) (now (newvalues .entry)) (now (newtimes .entry)) (now (newdiffs .entry))) (columns (now (outkeys .entry)) (now (outvalues .entry)) (now (outtimes .entry)) (now (outdiffs .entry))) (now (pendingkeys .entry)) (now (pendingtimes .entry)) (memory (now (res .entry)) (now (rd .entry)) (now (moments .entry)) (now (tk .entry)) (now (tv .entry)) (now (tt .entry)) (now (uv .entry)) (now (ut .entry)) (now (td .entry)) (now (ud .entry)))) r (memory (now (res .exit)) (now (rd .exit)) (now (moments .exit)) (now (tk .exit)) (now (tv .exit)) (now (tt .exit)) (now (uv .exit)) (now (ut .exit)) (now (td .exit)) (now (ud .exit))) ⌝ }
+    ensures { λ r. ⌜ Retires needed (lent mode width (now (lower .entry)) (now (upper .entry)) (now (held .entry)) (columns (now (oldkeys .entry)) (now (oldvalues .entry)) (now (oldtimes .entry)) (now (olddiffs .entry))) (columns (now (newkeys .entry)) (now (newvalues .entry)) (now (newtimes .entry)) (now (newdiffs .entry))) (columns (now (outkeys .entry)) (now (outvalues .entry)) (now (outtimes .entry)) (now (outdiffs .entry))) (now (pendingkeys .entry)) (now (pendingtimes .entry)) (memory (now (res .entry)) (now (rd .entry)) (now (moments .entry)) (now (tk .entry)) (now (tv .entry)) (now (tt .entry)) (now (uv .entry)) (now (ut .entry)) (now (td .entry)) (now (ud .entry)))) r (memory (now (res .exit)) (now (rd .exit)) (now (moments .exit)) (now (tk .exit)) (now (tv .exit)) (now (tt .exit)) (now (uv .exit)) (now (ut .exit)) (now (td .exit)) (now (ud .exit))) ⌝ }
 {
     let s = check(
         mode,

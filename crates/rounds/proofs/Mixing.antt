@@ -25,7 +25,7 @@ use Rattle.backends.specs.Columns.{entries}
 use Rattle.backends.proofs.Columns.{less, Writing, writing-start, writing-more, writing-end}
 use Rattle.moments.specs.Present.{edits}
 use Rattle.rounds.specs.Merges.{byValue, merged, Merges, Rows}
-use Rattle.moments.proofs.Showing.{e₀, edits-at, edits-values}
+use Rattle.moments.proofs.Columns.{e₀, edits-at, edits-values}
 
 -- ---- the columns of edits
 dated-values : (t : ℕ) (vs : List ℕ) (ds : List ℤ) → length ds ≡ length vs → map valueOf (dated t (entries vs ds)) ≡ vs

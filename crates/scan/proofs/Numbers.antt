@@ -104,10 +104,6 @@ plain-other (b ∷ []) e = by-test (digit b) (λ t. rw t) (λ t. rw t)
 plain-other (b ∷ c ∷ l) e = by-test (digit b) (λ t. by-test (digit c) (λ u. rw (t, u, e)) (λ u. rw (t, u))) (λ t. rw t)
 
 -- ---- words
-pub word-none : (s : List ℕ) → some s ≡ word [] s
-unfolding word
-word-none s = refl
-
 module _ (w s : List ℕ) (i at : ℕ) {goal : Option (List ℕ)} (same : word (drop i w) (drop at s) ≡ goal) where
   pub word-more : i < length w → at < length s → getD s at 0 ≡ getD w i 0 → word (drop (i + 1) w) (drop (at + 1) s) ≡ goal
   unfolding word

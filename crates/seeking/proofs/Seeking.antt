@@ -1,19 +1,17 @@
 -- A window's search and discovery, one after the other.
 --
 -- tallyOf: what is counted before the discovery
--- from-reaches, to-reaches: the columns are as long as the window. parts-lent, found-lent: what their fronts tell is the same when they are lent
 -- own-room, in-room, out-room: the columns have room for the window's keys. window-lent, runs-lent: what the discovery asks of its memory, and of the runs
 -- found-few: what is found of a key without a limit passed has few moments. each-few: so it is for all keys of a window
 -- cut-ends: lists laid in a row are segments, by their ends. window-cut: so the moments of each key are a segment within the limit
 -- window-parted: the searches tell parts of the runs. sought: what search and discovery leave
 use Prim.Native.Nat.{ℕ, suc, _+_, _-_, _≤_}
-use native.Mathlib.Nat.{sub-zero}
 use native.Mathlib.Omega.{arith}
 use mathlib.Core.Bool.{Bool, false}
 use mathlib.Core.List.{List, [], _∷_, _++_, map, map-map, append-assoc}
 use mathlib.Core.Path.{_≡_, refl, sym, _∙_, ap, subst}
 use lib.IntN.{ℤ}
-use lib.ListN.{length, take, drop, length-append, length-drop, length-take, take-append-drop}
+use lib.ListN.{length, take, drop, length-append, length-drop, take-append-drop}
 use lib.Seq.{drop-drop, take-append-seam, drop-append-seam}
 use Rattle.grid.specs.Lists.{any}
 use Rattle.grid.specs.Records.{Row}
@@ -24,8 +22,7 @@ use Rattle.rules.specs.Discover.{mostMoments, State, start, discover}
 use Rattle.rules.specs.Call.{editsOf, pendingOf}
 use Rattle.rules.proofs.Order.{run-keeps}
 use Rattle.rules.proofs.Fuel.{Bounded, step-bounded, start-bounded}
-use Rattle.backends.specs.Crossing.{part, ends, whole, Cut, done, next}
-use Rattle.keys.specs.declared.Span.{Span}
+use Rattle.backends.specs.Segments.{part, ends, whole, Cut, done, next}
 use Rattle.searches.specs.Searched.{SearchRoom, Searched}
 use Rattle.finding.specs.Windowed.{stateAt, LentRuns, LentWindow, Parted, spansIn, fourfold, momentsOf, windowOver, FindsWindow}
 use Rattle.finding.specs.Keyed.{foundAt}
@@ -38,29 +35,8 @@ use Rattle.progress.specs.declared.Progress.{Progress}
 abbrev pub tallyOf : Progress → Tally
 tallyOf p = record { moments = 0; pended = p .pended; over = p .over }
 
--- ---- the fronts of the columns, as they are lent
-module _ {n long : ℕ} (from to : List ℕ) (P : Parted n long (take n from) (take n to)) where
-  pub from-reaches : n ≤ length from
-  from-reaches = omega (arith, P .from-long, length-take n from)
-
-  pub to-reaches : n ≤ length to
-  to-reaches = omega (arith, P .to-long, length-take n to)
-
-module _ (nfrom nto pfrom pto ifrom ito ofrom oto : List ℕ) where
-  pub parts-lent : {n new pending input out : ℕ}
-      → Parted n new (take n nfrom) (take n nto) × (Parted n pending (take n pfrom) (take n pto) × (Parted n input (take n ifrom) (take n ito) × Parted n out (take n ofrom) (take n oto)))
-      → Parted n new (take (n - 0) nfrom) (take (n - 0) nto) × (Parted n pending (take (n - 0) pfrom) (take (n - 0) pto) × (Parted n input (take (n - 0) ifrom) (take (n - 0) ito) × Parted n out (take (n - 0) ofrom) (take (n - 0) oto)))
-  parts-lent {n} P = rw (sub-zero n) P
-
-  pub found-lent : (f : Span → Span → Span → Span → State) {keys : List ℕ} {p : Tally} {mends nextkeys nexttimes moments′ mends′ nextkeys′ nexttimes′ : List ℕ} {r : Tally}
-      → FindsWindow keys (fourfold f (spansIn (take (length keys - 0) nfrom) (take (length keys - 0) nto)) (spansIn (take (length keys - 0) pfrom) (take (length keys - 0) pto)) (spansIn (take (length keys - 0) ifrom) (take (length keys - 0) ito)) (spansIn (take (length keys - 0) ofrom) (take (length keys - 0) oto)))
-      p mends nextkeys nexttimes moments′ mends′ nextkeys′ nexttimes′ r
-      → FindsWindow keys (fourfold f (spansIn (take (length keys) nfrom) (take (length keys) nto)) (spansIn (take (length keys) pfrom) (take (length keys) pto)) (spansIn (take (length keys) ifrom) (take (length keys) ito)) (spansIn (take (length keys) ofrom) (take (length keys) oto)))
-      p mends nextkeys nexttimes moments′ mends′ nextkeys′ nexttimes′ r
-  found-lent f {keys} F = rw (sub-zero (length keys)) at F
-
 -- ---- what the search and the discovery ask
-module _ {keys moments nextkeys nexttimes mends ifrom ito ofrom oto : List ℕ} {p : Progress} (L : LentSeek keys moments nextkeys nexttimes mends ifrom ito ofrom oto p) where
+module _ {most : ℕ} {keys moments nextkeys nexttimes mends ifrom ito ofrom oto : List ℕ} {p : Progress} (L : LentSeek most keys moments nextkeys nexttimes mends ifrom ito ofrom oto p) where
   pub own-room : (from to : List ℕ) → length from ≡ 64 → length to ≡ 64 → SearchRoom (length keys) from to
   own-room from to f t = record { from-room = omega (arith, L .keys-few); to-room = omega (arith, L .keys-few) }
 
@@ -70,10 +46,10 @@ module _ {keys moments nextkeys nexttimes mends ifrom ito ofrom oto : List ℕ} 
   pub out-room : SearchRoom (length keys) ofrom oto
   out-room = record { from-room = omega (arith, L .keys-few, L .ofrom-room); to-room = omega (arith, L .keys-few, L .oto-room) }
 
-  pub window-lent : LentWindow keys moments mends nextkeys nexttimes (tallyOf p)
+  pub window-lent : LentWindow most keys moments mends nextkeys nexttimes (tallyOf p)
   window-lent = record { keys-few = L .keys-few; none-yet = refl; moments-room = L .moments-room; mends-room = omega (arith, L .keys-few, L .mends-room); next-room = L .next-room }
 
-pub runs-lent : {nk nt pk pt ik iv it : List ℕ} {id : List ℤ} {ok ot : List ℕ} → Seeks nk nt pk pt ik iv it id ok ot → LentRuns nt pt it iv id ot
+pub runs-lent : {most : ℕ} {nk nt pk pt ik iv it : List ℕ} {id : List ℤ} {ok ot : List ℕ} → Seeks most nk nt pk pt ik iv it id ok ot → LentRuns most nt pt it iv id ot
 runs-lent s =
     record {
       new-few = omega (arith, s .new-level, s .new-few);
@@ -94,10 +70,10 @@ found-few upper new pending input out k =
     (start-bounded upper (pendingOf k new) (pendingOf k pending) (editsOf k input) (pendingOf k out))
     .few
 
-pub each-few : (found : ℕ → State) → ((k : ℕ) → found k .over ≡ false → length (found k .moments) ≤ mostMoments) → (over : Bool) (n : ℕ) (keys : List ℕ) → windowOver over n (map found keys) ≡ false
+pub each-few : (most : ℕ) (found : ℕ → State) → ((k : ℕ) → found k .over ≡ false → length (found k .moments) ≤ mostMoments) → (over : Bool) (n : ℕ) (keys : List ℕ) → windowOver most over n (map found keys) ≡ false
     → All (λ m. length m ≤ mostMoments) (momentsOf (map found keys))
 unfolding windowOver
-each-few found few over n keys e =
+each-few most found few over n keys e =
     let none : any (λ (D : State). D .over) (map found keys) ≡ false = or-false-l (any (λ (D : State). D .over) (map found keys)) _ (or-false-r over _ e) in
     all-map (λ (D : State). D .moments) (all-map found (all-imp few (map-all found keys (none-all (λ (D : State). D .over) (map found keys) none))))
 
@@ -119,7 +95,7 @@ module _ {A : Type 0} where
       let m : k + length s ≤ length l = omega arith in
       next {f = k} {e = k + length s} (omega arith) m (subst P (sym (first-part k s l (whole ss ++ rest) q)) (head a)) (cut-ends (k + length s) ss l rest (tail a) m (next-drop k s l (whole ss ++ rest) q))
 
-window-cut : {keys : List ℕ} {Ds : List State} {p : Tally} {mends nextkeys nexttimes moments′ mends′ nextkeys′ nexttimes′ : List ℕ} {r : Tally} → FindsWindow keys Ds p mends nextkeys nexttimes moments′ mends′ nextkeys′ nexttimes′ r
+window-cut : {most : ℕ} {keys : List ℕ} {Ds : List State} {p : Tally} {mends nextkeys nexttimes moments′ mends′ nextkeys′ nexttimes′ : List ℕ} {r : Tally} → FindsWindow most keys Ds p mends nextkeys nexttimes moments′ mends′ nextkeys′ nexttimes′ r
     → length keys ≤ length mends → r .over ≡ false → All (λ m. length m ≤ mostMoments) (momentsOf Ds) → Cut (λ m. length m ≤ mostMoments) moments′ 0 (take (length keys) mends′)
 window-cut {Ds = Ds} {moments′ = moments′} {r = r} F room o few =
     let f = laid-front (F .ends-are o) (omega (arith, F .ends-are o .counted)) in
@@ -127,8 +103,8 @@ window-cut {Ds = Ds} {moments′ = moments′} {r = r} F room o few =
     (cut-ends 0 (momentsOf Ds) moments′ (drop (r .moments) moments′) few (omega arith) (sym (take-append-drop (r .moments) moments′) ∙ ap (λ l. l ++ drop (r .moments) moments′) (F .row-is o)))
 
 -- ---- what they leave
-module _ {nk nt pk pt ik iv it : List ℕ} {id : List ℤ} {ok ot keys moments nextkeys nexttimes mends ifrom ito ofrom oto : List ℕ} {p : Progress}
-    (A : Seeks nk nt pk pt ik iv it id ok ot) (R : Reached nk pk ik ok keys p) (L : LentSeek keys moments nextkeys nexttimes mends ifrom ito ofrom oto p)
+module _ {most : ℕ} {nk nt pk pt ik iv it : List ℕ} {id : List ℤ} {ok ot keys moments nextkeys nexttimes mends ifrom ito ofrom oto : List ℕ} {p : Progress}
+    (A : Seeks most nk nt pk pt ik iv it id ok ot) (R : Reached nk pk ik ok keys p) (L : LentSeek most keys moments nextkeys nexttimes mends ifrom ito ofrom oto p)
     {nfrom nto pfrom pto nfrom′ nto′ pfrom′ pto′ ifrom′ ito′ ofrom′ oto′ : List ℕ} {new pending input out : ℕ}
     (S : Searched nk (p .new) keys nfrom nto nfrom′ nto′ new × (Searched pk (p .pending) keys pfrom pto pfrom′ pto′ pending × (Searched ik (p .input) keys ifrom ito ifrom′ ito′ input × Searched ok (p .out) keys ofrom oto ofrom′ oto′ out)))
     (nf : length nfrom ≡ 64) (nl : length nto ≡ 64) (pf : length pfrom ≡ 64) (pl : length pto ≡ 64) where
@@ -163,13 +139,13 @@ module _ {nk nt pk pt ik iv it : List ℕ} {id : List ℤ} {ok ot keys moments n
         new-room (S .0) pending-room (S .1 .0) (in-room L) (S .1 .1 .0) (out-room L) (S .1 .1 .1)
 
     pub sought : {moments′ nextkeys′ nexttimes′ mends′ : List ℕ} {t : Tally}
-        → FindsWindow keys (fourfold (stateAt upper nt pt it iv id ot) (spansIn (take n nfrom′) (take n nto′)) (spansIn (take n pfrom′) (take n pto′)) (spansIn (take n ifrom′) (take n ito′)) (spansIn (take n ofrom′) (take n oto′)))
+        → FindsWindow most keys (fourfold (stateAt upper nt pt it iv id ot) (spansIn (take n nfrom′) (take n nto′)) (spansIn (take n pfrom′) (take n pto′)) (spansIn (take n ifrom′) (take n ito′)) (spansIn (take n ofrom′) (take n oto′)))
         (tallyOf p) mends nextkeys nexttimes moments′ mends′ nextkeys′ nexttimes′ t
-        → Sought found nk pk ik ok keys p nextkeys nexttimes moments′ nextkeys′ nexttimes′ mends′ ifrom′ ito′ ofrom′ oto′
+        → Sought most found nk pk ik ok keys p nextkeys nexttimes moments′ nextkeys′ nexttimes′ mends′ ifrom′ ito′ ofrom′ oto′
         (record { new = new; pending = pending; input = input; out = out; pended = t .pended; fixes = p .fixes; crossings = p .crossings; large = p .large; over = t .over })
     sought {moments′} {nextkeys′} {nexttimes′} {mends′} {t} w =
-        let F : FindsWindow keys (map found keys) (tallyOf p) mends nextkeys nexttimes moments′ mends′ nextkeys′ nexttimes′ t =
-        subst (λ Ds. FindsWindow keys Ds (tallyOf p) mends nextkeys nexttimes moments′ mends′ nextkeys′ nexttimes′ t) found-window w in
+        let F : FindsWindow most keys (map found keys) (tallyOf p) mends nextkeys nexttimes moments′ mends′ nextkeys′ nexttimes′ t =
+        subst (λ Ds. FindsWindow most keys Ds (tallyOf p) mends nextkeys nexttimes moments′ mends′ nextkeys′ nexttimes′ t) found-window w in
         let room : n ≤ length mends = omega (arith, L .keys-few, L .mends-room) in
         record {
           new-is = S .0 .end-is;
@@ -181,7 +157,7 @@ module _ {nk nt pk pt ik iv it : List ℕ} {id : List ℤ} {ok ot keys moments n
           over-is = F .over-is;
           next-few = F .next-few;
           moments-are = λ o. window-moments F room o ∙ map-map (λ (D : State). D .moments) found keys;
-          moments-cut = λ o. window-cut F room o (each-few found (found-few upper _ _ _ _) (p .over) (p .pended) keys (sym (F .over-is) ∙ o));
+          moments-cut = λ o. window-cut F room o (each-few most found (found-few upper _ _ _ _) (p .over) (p .pended) keys (sym (F .over-is) ∙ o));
           next-keys = F .next-keys;
           next-times = F .next-times;
           fixes-same = refl;

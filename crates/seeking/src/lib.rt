@@ -1,5 +1,4 @@
 // A window's turn, first half: its keys' parts of the runs are found, then their moments and their pended times.
-mod parts;
 mod seek;
 
 pub use seek::seek_window;

@@ -1,9 +1,10 @@
 // A window's search and discovery.
-use crate::parts::find_parts;
+use finding::find_window;
 use progress::Progress;
 use searches::Places;
 use searches::search_window;
 use tallies::Tally;
+ghost use lib.ListN.{length};
 ghost use Rattle.finding.specs.Tallies.{Scratch};
 ghost use Rattle.seeking.specs.Sought.{foundIn, Seeks, Reached, LentSeek, Sought};
 
@@ -45,9 +46,9 @@ pub fn seek_window(
     oto: &mut [usize],
     p: Progress,
 ) -> Progress
-    requires { ⌜ Scratch (now seeds) (now times) (now values) (now diffs) (now output) (now meets) (now waiting) (now tracked) (now pended) (now work) (now places) (now wvalues) (now wdiffs) ⌝ }
-    requires { ⌜ Seeks (now newkeys) (now newtimes) (now pendingkeys) (now pendingtimes) (now inkeys) (now invalues) (now intimes) (now indiffs) (now outkeys) (now outtimes) × (Reached (now newkeys) (now pendingkeys) (now inkeys) (now outkeys) (now keys) p × LentSeek (now keys) (now moments) (now nextkeys) (now nexttimes) (now mends) (now ifrom) (now ito) (now ofrom) (now oto) p) ⌝ }
-    ensures { λ r. ⌜ Sought (foundIn (now (upper .entry)) (now (newkeys .entry)) (now (newtimes .entry)) (now (pendingkeys .entry)) (now (pendingtimes .entry)) (now (inkeys .entry)) (now (invalues .entry)) (now (intimes .entry)) (now (indiffs .entry)) (now (outkeys .entry)) (now (outtimes .entry))) (now (newkeys .entry)) (now (pendingkeys .entry)) (now (inkeys .entry)) (now (outkeys .entry)) (now (keys .entry)) p (now (nextkeys .entry)) (now (nexttimes .entry)) (now (moments .exit)) (now (nextkeys .exit)) (now (nexttimes .exit)) (now (mends .exit)) (now (ifrom .exit)) (now (ito .exit)) (now (ofrom .exit)) (now (oto .exit)) r ⌝ }
+    requires { ⌜ Scratch (length (now nextkeys)) (now seeds) (now times) (now values) (now diffs) (now output) (now meets) (now waiting) (now tracked) (now pended) (now work) (now places) (now wvalues) (now wdiffs) ⌝ }
+    requires { ⌜ Seeks (length (now nextkeys)) (now newkeys) (now newtimes) (now pendingkeys) (now pendingtimes) (now inkeys) (now invalues) (now intimes) (now indiffs) (now outkeys) (now outtimes) × (Reached (now newkeys) (now pendingkeys) (now inkeys) (now outkeys) (now keys) p × LentSeek (length (now nextkeys)) (now keys) (now moments) (now nextkeys) (now nexttimes) (now mends) (now ifrom) (now ito) (now ofrom) (now oto) p) ⌝ }
+    ensures { λ r. ⌜ Sought (length (now (nextkeys .entry))) (foundIn (now (upper .entry)) (now (newkeys .entry)) (now (newtimes .entry)) (now (pendingkeys .entry)) (now (pendingtimes .entry)) (now (inkeys .entry)) (now (invalues .entry)) (now (intimes .entry)) (now (indiffs .entry)) (now (outkeys .entry)) (now (outtimes .entry))) (now (newkeys .entry)) (now (pendingkeys .entry)) (now (inkeys .entry)) (now (outkeys .entry)) (now (keys .entry)) p (now (nextkeys .entry)) (now (nexttimes .entry)) (now (moments .exit)) (now (nextkeys .exit)) (now (nexttimes .exit)) (now (mends .exit)) (now (ifrom .exit)) (now (ito .exit)) (now (ofrom .exit)) (now (oto .exit)) r ⌝ }
 {
     let mut nfrom = [0usize; 64];
     let mut nto = [0usize; 64];
@@ -74,7 +75,7 @@ pub fn seek_window(
             out: p.out,
         },
     );
-    let t = find_parts(
+    let t = find_window(
         upper,
         keys,
         newtimes,

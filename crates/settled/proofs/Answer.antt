@@ -10,7 +10,7 @@ use mathlib.Core.Path.{_≡_, sym, _∙_, ap}
 use lib.ListN.{length}
 use Rattle.grid.specs.Lists.{sort}
 use Rattle.grid.specs.Frontiers.{minimal}
-use Rattle.grid.specs.Records.{Row}
+use Rattle.grid.specs.Records.{Row, mostRecords}
 use Rattle.rules.specs.Tiles.{tiles}
 use Rattle.rules.specs.Call.{Request, fixBefore, changed, workAll, pendedAll, tooMany, refused, call}
 use Rattle.rules.proofs.Statuses.{Works, call-limits, call-worked, call-refused}
@@ -26,12 +26,12 @@ module _ {q : Request} (W : Works q) where
       call-refused q (omega arith) ∙ ap refused e
 
   module _ (few : tooMany (workAll q) ≡ false) where
-    pub answer-large : rowsTooLarge 0 (rowsOf q (windowsOf q (changed q))) ≡ true → call q ≡ refused 19
+    pub answer-large : rowsTooLarge mostRecords 0 (rowsOf q (windowsOf q (changed q))) ≡ true → call q ≡ refused 19
     answer-large l =
         let e : call q .status ≡ 19 = call-limits q .row-19 .1 (W, few, sym (call-settled q (W .accepted) .large-is) ∙ l) in
         call-refused q (omega arith) ∙ ap refused e
 
-    pub answer-worked : {p : ℕ} {rows : List Row} {count : ℕ} → Through q p rows count → length (changed q) ≤ p → call q ≡ record {
+    pub answer-worked : {p : ℕ} {rows : List Row} {count : ℕ} → Through mostRecords q p rows count → length (changed q) ≤ p → call q ≡ record {
       status = 0;
       crossings = count;
       tiles = tiles (q .lower) (q .upper) (q .held);

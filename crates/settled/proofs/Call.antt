@@ -10,7 +10,7 @@ use lib.Dec.{eqb, leb}
 use lib.ListN.{length, drop, length-map}
 use borrow.Author.Tests.{leb-true}
 use Rattle.grid.specs.Lists.{keep, sort, flat}
-use Rattle.grid.specs.Records.{Row}
+use Rattle.grid.specs.Records.{Row, mostRecords}
 use Rattle.grid.proofs.Tests.{and-l, and-r}
 use Rattle.grid.proofs.Operations.{map-take, map-drop}
 use Rattle.rules.specs.Retire.{windows, roundsOf, crossings}
@@ -38,7 +38,7 @@ width-wide q c = leb-true 1 (q .width) (and-r (eqb (q .mode) 1 || eqb (q .mode) 
 -- ---- the whole call
 pub record Rules (q : Request) (rows : List Row) (count : ℕ) : Type 0 where
   pub fixes-are : sort (λ f g. not (fixBefore g f)) (map (asFix q) rows) ≡ fixesFound q
-  pub large-is : rowsTooLarge 0 rows ≡ tooLarge (fixesFound q)
+  pub large-is : rowsTooLarge mostRecords 0 rows ≡ tooLarge (fixesFound q)
   pub crossings-are : count ≡ crossings (q .width) (map crossedOf (workAll q))
 
 module _ (q : Request) (A : Accepted q) where
@@ -81,6 +81,6 @@ module _ (q : Request) (A : Accepted q) where
   pub call-settled : Rules q (rowsOf q itsWindows) (crossingsOf q itsWindows)
   call-settled = record {
     fixes-are = ap (λ rs. sort (λ f g. not (fixBefore g f)) (map (asFix q) rs)) rows-found ∙ fixes-made q (workAll q);
-    large-is = ap (rowsTooLarge 0) rows-found ∙ rows-large q (workAll q);
+    large-is = ap (rowsTooLarge mostRecords 0) rows-found ∙ rows-large q (workAll q);
     crossings-are = crossings-found;
   }

@@ -2,40 +2,24 @@
 --
 -- rowsDone d: the records of the corrections of a key that was worked on
 -- fixes-made: the rules' corrections are the records of all keys' corrections, placed and sorted
--- rows-large: whether some are too many or out of range does not depend on that. large-append: of corrections and later ones
-use Prim.Native.Nat.{ℕ, _+_, _≤_}
+-- rows-large: whether some are too many or out of range does not depend on that
+use Prim.Native.Nat.{ℕ, _+_}
 use native.Mathlib.Omega.{arith}
-use mathlib.Core.Bool.{Bool, true, false, not, _||_}
-use mathlib.Core.List.{List, _++_, map, map-map}
-use mathlib.Core.Path.{_≡_, refl, sym, _∙_, ap, ap₂}
+use mathlib.Core.Bool.{Bool, not, _||_}
+use mathlib.Core.List.{List, map, map-map}
+use mathlib.Core.Path.{_≡_, sym, _∙_, ap, ap₂}
 use lib.Dec.{ltb}
 use lib.IntN.{ℤ}
-use lib.ListN.{length, length-append, length-map}
-use borrow.Author.Tests.{ltb-true, lt-ltb}
+use lib.ListN.{length, length-map}
 use Rattle.grid.specs.Lists.{any, sort, flat}
 use Rattle.grid.specs.Records.{Row, mostRecords, inRange}
-use Rattle.grid.proofs.Tests.{by-test, or-r}
 use Rattle.grid.proofs.Sort.{length-sort}
-use Rattle.grid.proofs.Operations.{any-append}
 use Rattle.rules.specs.Tiles.{tiles}
 use Rattle.rules.specs.Retire.{Round}
 use Rattle.rules.specs.Call.{Request, Fix, Done, fixesOf, fixBefore, fixesAll, tooLarge}
 use Rattle.slots.specs.Slots.{rowsIn, rowsTooLarge}
 use Rattle.settled.specs.Call.{asFix}
 use Rattle.settled.proofs.Flat.{map-flat, any-map, any-sort}
-
--- ---- too many, or out of range
-large-more : (a b : Bool) (m n k : ℕ) → m ≤ n → ((a || b) || ltb k n) ≡ ((a || ltb k m) || (b || ltb k n))
-large-more true b m n k l = refl
-large-more false true m n k l = sym (or-r (ltb k m) true refl)
-large-more false false m n k l = by-test (ltb k m) (λ e. rw (e, lt-ltb k n (omega (arith, ltb-true k m e)))) (λ e. rw e)
-
-pub large-append : (n : ℕ) (rs xs : List Row) → rowsTooLarge n (rs ++ xs) ≡ (rowsTooLarge n rs || rowsTooLarge (n + length rs) xs)
-unfolding rowsTooLarge
-large-append n rs xs =
-    let e : n + length (rs ++ xs) ≡ n + length rs + length xs = rw (length-append rs xs) (omega arith) in
-    ap₂ (λ b m. b || ltb mostRecords m) (any-append (λ (r : Row). not (inRange (r .diff))) rs xs) e
-    ∙ large-more (any (λ (r : Row). not (inRange (r .diff))) rs) (any (λ (r : Row). not (inRange (r .diff))) xs) (n + length rs) (n + length rs + length xs) mostRecords (omega arith)
 
 -- ---- the rules' corrections
 abbrev pub rowsDone : Done → List Row
@@ -54,7 +38,7 @@ module _ (q : Request) (ds : List Done) where
           map-flat (asFix q) (rowsIn (d .key)) (d .rounds)
           ∙ (λ i. flat (λ (r : Round). map-map (asFix q) (λ (p : ℕ × ℤ). record { key = d .key; value = p .0; time = r .time; diff = p .1 }) (r .fixes) i) (d .rounds))
 
-  pub rows-large : rowsTooLarge 0 (flat rowsDone ds) ≡ tooLarge (fixesAll q (tiles (q .lower) (q .upper) (q .held)) ds)
+  pub rows-large : rowsTooLarge mostRecords 0 (flat rowsDone ds) ≡ tooLarge (fixesAll q (tiles (q .lower) (q .upper) (q .held)) ds)
   unfolding rowsTooLarge tooLarge
   rows-large =
       let bad : Fix → Bool = (λ (f : Fix). not (inRange (f .row .diff))) in

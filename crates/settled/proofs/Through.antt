@@ -1,7 +1,7 @@
 -- A loop over the windows of a call.
 --
 -- windows-next: the window of the keys from p to e, and the windows from e on
--- Through q p rows count: the windows of the keys before p are settled, and gave rows, not too large, and count
+-- Through most q p rows count: the windows of the keys before p are settled, and gave rows, not too large beside most, and count
 -- through-start, through-more: before the first window, and past one more. through-rows, through-count: past the last one, these are all
 -- through-large: a window that is too large beside those before it tells that all are
 use Prim.Native.Nat.{ℕ, zero, suc, _+_, _-_, _<_, _≤_, min}
@@ -17,10 +17,10 @@ use Rattle.grid.specs.Records.{Row}
 use Rattle.grid.proofs.Tests.{by-test, or-l, or-r}
 use Rattle.rules.specs.Retire.{windows}
 use Rattle.rules.specs.Call.{Request, changed}
-use Rattle.backends.specs.Crossing.{part}
+use Rattle.backends.specs.Segments.{part}
 use Rattle.slots.specs.Slots.{Slot, rowsTooLarge, windowRows, windowCrossings}
+use Rattle.slots.proofs.Large.{not-large, large-append}
 use Rattle.settled.specs.Call.{slotOf, windowsOf, rowsOf, crossingsOf}
-use Rattle.settled.proofs.Fixes.{large-append}
 
 -- ---- windows
 module _ {A : Type 0} where
@@ -68,17 +68,16 @@ module _ (q : Request) (wide : 1 ≤ q .width) (p e : ℕ) (ks : List ℕ) (h : 
       ∙ ap₂ (λ w r. w ∷ windows (length r) (q .width) r) (take-until (q .width) p e ks h k) (drop-until (q .width) p e ks h k)
 
 -- ---- the loop
-pub record Through (q : Request) (p : ℕ) (rows : List Row) (count : ℕ) : Type 0 where
+pub record Through (most : ℕ) (q : Request) (p : ℕ) (rows : List Row) (count : ℕ) : Type 0 where
   pub within : p ≤ length (changed q)
   pub rows-are : rows ++ rowsOf q (windowsOf q (drop p (changed q))) ≡ rowsOf q (windowsOf q (changed q))
-  pub rows-fit : rowsTooLarge 0 rows ≡ false
+  pub rows-fit : rowsTooLarge most 0 rows ≡ false
   pub count-is : count + crossingsOf q (windowsOf q (drop p (changed q))) ≡ crossingsOf q (windowsOf q (changed q))
 
-pub through-start : (q : Request) → Through q 0 [] 0
-unfolding rowsTooLarge
-through-start q = record { within = omega arith; rows-are = refl; rows-fit = refl; count-is = omega arith }
+pub through-start : (most : ℕ) (q : Request) → Through most q 0 [] 0
+through-start most q = record { within = omega arith; rows-are = refl; rows-fit = not-large 0 (omega arith); count-is = omega arith }
 
-module _ {q : Request} {p : ℕ} {rows : List Row} {count : ℕ} (t : Through q p rows count) where
+module _ {most : ℕ} {q : Request} {p : ℕ} {rows : List Row} {count : ℕ} (t : Through most q p rows count) where
   module _ (e : ℕ) (wide : 1 ≤ q .width) (h : e ≡ min (p + q .width) (length (changed q))) (k : p < length (changed q)) where
     -- the window from p to e
     abbrev slots : List Slot
@@ -98,10 +97,10 @@ module _ {q : Request} {p : ℕ} {rows : List Row} {count : ℕ} (t : Through q 
     unfolding crossingsOf
     count-next = ap (λ ws. count + crossingsOf q ws) (sym (windows-next q wide p e (changed q) h k)) ∙ t .count-is
 
-    large-next : (rs : List Row) → rowsTooLarge 0 (rows ++ rs) ≡ (rowsTooLarge 0 rows || rowsTooLarge (length rows) rs)
-    large-next rs = large-append 0 rows rs ∙ ap (λ n. rowsTooLarge 0 rows || rowsTooLarge n rs) (let z : 0 + length rows ≡ length rows = omega arith in z)
+    large-next : (rs : List Row) → rowsTooLarge most 0 (rows ++ rs) ≡ (rowsTooLarge most 0 rows || rowsTooLarge most (length rows) rs)
+    large-next rs = large-append most 0 rows rs ∙ ap (λ n. rowsTooLarge most 0 rows || rowsTooLarge most n rs) (let z : 0 + length rows ≡ length rows = omega arith in z)
 
-    pub through-more : rowsTooLarge (length rows) itsRows ≡ false → Through q e (rows ++ itsRows) (count + windowCrossings (q .mode) slots)
+    pub through-more : rowsTooLarge most (length rows) itsRows ≡ false → Through most q e (rows ++ itsRows) (count + windowCrossings (q .mode) slots)
     through-more f = record {
       within = omega arith;
       rows-are = append-assoc rows itsRows later ∙ rows-next;
@@ -109,10 +108,10 @@ module _ {q : Request} {p : ℕ} {rows : List Row} {count : ℕ} (t : Through q 
       count-is = (let c = count-next in omega arith);
     }
 
-    pub through-large : rowsTooLarge (length rows) itsRows ≡ true → rowsTooLarge 0 (rowsOf q (windowsOf q (changed q))) ≡ true
+    pub through-large : rowsTooLarge most (length rows) itsRows ≡ true → rowsTooLarge most 0 (rowsOf q (windowsOf q (changed q))) ≡ true
     through-large f =
-        ap (rowsTooLarge 0) (sym rows-next) ∙ large-next (itsRows ++ later)
-        ∙ or-r (rowsTooLarge 0 rows) _ (large-append (length rows) itsRows later ∙ or-l (rowsTooLarge (length rows) itsRows) _ f)
+        ap (rowsTooLarge most 0) (sym rows-next) ∙ large-next (itsRows ++ later)
+        ∙ or-r (rowsTooLarge most 0 rows) _ (large-append most (length rows) itsRows later ∙ or-l (rowsTooLarge most (length rows) itsRows) _ f)
 
   module _ (z : length (changed q) ≤ p) where
     pub through-rows : rows ≡ rowsOf q (windowsOf q (changed q))

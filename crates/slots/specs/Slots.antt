@@ -5,14 +5,14 @@
 -- Slot: a key of a window: its input, its output, its moments. slotsOf: slots of columns
 -- slotRounds: a slot's rounds. rowsIn: a round's corrections as records of a key. crossedIn: in which rounds a key crossed
 -- windowRows: the corrections of a window, slot by slot. windowCrossings: in how many of its rounds some slot crosses
--- rowsTooLarge n: whether, beside n corrections so far, these are too many, or one of them is out of range
+-- rowsTooLarge most n: whether, beside n corrections so far, these make more than most, or one of them is out of range
 use Prim.Native.Nat.{ℕ, _+_}
 use mathlib.Core.Bool.{Bool, _||_, not}
 use mathlib.Core.List.{List, [], _∷_, map}
 use lib.Dec.{ltb}
 use lib.ListN.{length}
 use Rattle.grid.specs.Lists.{any, keep, flat}
-use Rattle.grid.specs.Records.{Row, mostRecords, inRange}
+use Rattle.grid.specs.Records.{Row, inRange}
 use Rattle.rules.specs.Histories.{Edit}
 use Rattle.rules.specs.Retire.{Round, settle, roundsOf}
 
@@ -47,5 +47,5 @@ windowRows mode ss = flat (slotRows mode) ss
 unfoldable pub windowCrossings : ℕ → List Slot → ℕ
 windowCrossings mode ss = length (keep (λ b. b) (roundsOf (map (λ s. crossedIn (slotRounds mode s)) ss)))
 
-unfoldable pub rowsTooLarge : ℕ → List Row → Bool
-rowsTooLarge n rs = any (λ (r : Row). not (inRange (r .diff))) rs || ltb mostRecords (n + length rs)
+unfoldable pub rowsTooLarge : ℕ → ℕ → List Row → Bool
+rowsTooLarge most n rs = any (λ (r : Row). not (inRange (r .diff))) rs || ltb most (n + length rs)

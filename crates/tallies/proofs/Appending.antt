@@ -7,7 +7,6 @@ use native.Mathlib.Omega.{arith}
 use mathlib.Core.List.{List}
 use mathlib.Core.Path.{_≡_, refl}
 use lib.ListN.{length, drop, getD, set, replicate, length-set, drop-of-length-le}
-use Rattle.grid.specs.Records.{mostRecords}
 use Rattle.grid.proofs.Loops.{drop-more, fills-more, fills-none}
 use Rattle.backends.specs.Columns.{Column}
 use Rattle.backends.proofs.Columns.{Writing, writing-start, writing-more, writing-end}
@@ -42,11 +41,11 @@ module _ {k n : ℕ} {ts keys₀ times₀ keys times : List ℕ} {i at : ℕ} (m
   pub appending-end : length ts ≤ i → Column keys₀ n (replicate (length ts) k) keys at × Column times₀ n ts times at
   appending-end h = (writing-end (m .keys-are) (fills-none k (length ts) i h), writing-end (m .times-are) (drop-of-length-le ts h))
 
-pub appends-few : {k n : ℕ} {ts keys times keys′ times′ : List ℕ} {r : ℕ} → n + length ts ≤ mostRecords
-    → Column keys n (replicate (length ts) k) keys′ r × Column times n ts times′ r → Appends k n ts keys times keys′ times′ r
+pub appends-few : {most k n : ℕ} {ts keys times keys′ times′ : List ℕ} {r : ℕ} → n + length ts ≤ most
+    → Column keys n (replicate (length ts) k) keys′ r × Column times n ts times′ r → Appends most k n ts keys times keys′ times′ r
 appends-few {n = n} {ts = ts} h c =
     let e = c .1 .end in
     record { counted = e; keys-are = λ _. c .0; times-are = λ _. c .1; full = λ g. absurd (omega (arith, e)) }
 
-pub appends-many : {k n : ℕ} {ts keys times : List ℕ} → mostRecords < n + length ts → Appends k n ts keys times keys times (n + length ts)
+pub appends-many : {most k n : ℕ} {ts keys times : List ℕ} → most < n + length ts → Appends most k n ts keys times keys times (n + length ts)
 appends-many h = record { counted = refl; keys-are = λ g. absurd (omega arith); times-are = λ g. absurd (omega arith); full = λ _. (refl, refl) }

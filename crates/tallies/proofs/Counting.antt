@@ -8,7 +8,6 @@ use mathlib.Core.Bool.{Bool, true, false, _||_}
 use mathlib.Core.Path.{_≡_, refl, sym, _∙_, ap}
 use lib.Dec.{ltb}
 use borrow.Author.Tests.{lt-ltb, le-ltb}
-use Rattle.grid.specs.Records.{mostRecords}
 use Rattle.grid.proofs.Tests.{clash}
 use Rattle.discover.specs.declared.Found.{Found}
 use Rattle.tallies.specs.Tallied.{pendedCount, Counts, Tallied}
@@ -27,31 +26,31 @@ or-true : (a : Bool) → (a || true) ≡ true
 or-true true = refl
 or-true false = refl
 
-module _ {p : Tally} {r : Found} (n : ℕ) (c : Counts p r) where
-  pub tallied-over : r .over ≡ true → Tallied p r n (record { moments = p .moments; pended = p .pended; over = true })
+module _ {p : Tally} {r : Found} (most n : ℕ) (c : Counts p r) where
+  pub tallied-over : r .over ≡ true → Tallied most p r n (record { moments = p .moments; pended = p .pended; over = true })
   tallied-over e =
       record {
-        over-is = sym (ap (λ b. p .over || (b || ltb mostRecords n)) e ∙ or-true (p .over));
+        over-is = sym (ap (λ b. p .over || (b || ltb most n)) e ∙ or-true (p .over));
         moments-few = omega arith;
         pended-few = λ h. h;
         moments-are = λ z. clash true refl z;
         pended-are = λ z. clash true refl z;
       }
 
-  pub tallied-many : mostRecords < n → Tallied p r n (record { moments = p .moments; pended = p .pended; over = true })
+  pub tallied-many : most < n → Tallied most p r n (record { moments = p .moments; pended = p .pended; over = true })
   tallied-many h =
       record {
-        over-is = sym (ap (λ b. p .over || (r .over || b)) (lt-ltb mostRecords n h) ∙ ap (λ b. p .over || b) (or-true (r .over)) ∙ or-true (p .over));
+        over-is = sym (ap (λ b. p .over || (r .over || b)) (lt-ltb most n h) ∙ ap (λ b. p .over || b) (or-true (r .over)) ∙ or-true (p .over));
         moments-few = omega arith;
         pended-few = λ h. h;
         moments-are = λ z. clash true refl z;
         pended-are = λ z. clash true refl z;
       }
 
-  pub tallied-more : r .over ≡ false → n ≤ mostRecords → Tallied p r n (record { moments = p .moments + r .moments; pended = n; over = p .over })
+  pub tallied-more : r .over ≡ false → n ≤ most → Tallied most p r n (record { moments = p .moments + r .moments; pended = n; over = p .over })
   tallied-more e h =
       record {
-        over-is = sym (ap (λ b. p .over || b) (rw (e, le-ltb mostRecords n h)) ∙ or-none (p .over));
+        over-is = sym (ap (λ b. p .over || b) (rw (e, le-ltb most n h)) ∙ or-none (p .over));
         moments-few = omega (arith, c .found-few e);
         pended-few = λ _. h;
         moments-are = λ _. refl;

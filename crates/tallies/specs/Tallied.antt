@@ -1,12 +1,11 @@
 -- What is counted of the keys of a window, one after the other. 18: "for some key: over 1,024 moments … ; or over 4,096 pended in all".
 --
 -- mostInput, mostWindow: the most records of the input, and the most moments of a window
--- pendedCount, Counts, Tallied: what is counted of one key
+-- pendedCount, Counts, Tallied: what is counted of one key. most: for how many pended times in all there is room
 use Prim.Native.Nat.{ℕ, _+_, _≤_}
 use mathlib.Core.Bool.{false, cond, _||_}
 use mathlib.Core.Path.{_≡_}
 use lib.Dec.{ltb}
-use Rattle.grid.specs.Records.{mostRecords}
 use Rattle.rules.specs.Discover.{mostMoments}
 use Rattle.discover.specs.declared.Found.{Found}
 use Rattle.tallies.specs.declared.Tally.{Tally}
@@ -27,9 +26,9 @@ pub record Counts (p : Tally) (r : Found) : Type 0 where
   pub before-few : p .moments ≤ mostWindow
   pub found-few : r .over ≡ false → r .moments ≤ mostMoments
 
-pub record Tallied (p : Tally) (r : Found) (n : ℕ) (q : Tally) : Type 0 where
-  pub over-is : q .over ≡ (p .over || (r .over || ltb mostRecords n))
+pub record Tallied (most : ℕ) (p : Tally) (r : Found) (n : ℕ) (q : Tally) : Type 0 where
+  pub over-is : q .over ≡ (p .over || (r .over || ltb most n))
   pub moments-few : q .moments ≤ p .moments + mostMoments
-  pub pended-few : p .pended ≤ mostRecords → q .pended ≤ mostRecords
+  pub pended-few : p .pended ≤ most → q .pended ≤ most
   pub moments-are : q .over ≡ false → q .moments ≡ p .moments + r .moments
-  pub pended-are : q .over ≡ false → (q .pended ≡ n) × (n ≤ mostRecords)
+  pub pended-are : q .over ≡ false → (q .pended ≡ n) × (n ≤ most)

@@ -1,6 +1,5 @@
 // What is counted of one key.
 use crate::Tally;
-use crate::next::MOST_RECORDS;
 use discover::Found;
 ghost use mathlib.Core.Path.{_≡_};
 ghost use Rattle.tallies.specs.Tallied.{pendedCount, Counts, Tallied};
@@ -15,10 +14,10 @@ pub fn pended_count(r: Found) -> usize
     r.pended
 }
 
-// The tally with what was found of one more key, and n entries of the next pending list, if these are not too many.
-pub fn tally_with(p: Tally, r: Found, n: usize) -> Tally
+// The tally with what was found of one more key, and n entries of the next pending list, if these are at most as many as it has room for.
+pub fn tally_with(p: Tally, r: Found, n: usize, most: usize) -> Tally
     requires { ⌜ Counts p r ⌝ }
-    ensures { λ q. ⌜ Tallied p r n q ⌝ }
+    ensures { λ q. ⌜ Tallied most p r n q ⌝ }
 {
     if r.over {
         return Tally {
@@ -27,7 +26,7 @@ pub fn tally_with(p: Tally, r: Found, n: usize) -> Tally
             over: true,
         };
     }
-    if n > MOST_RECORDS {
+    if n > most {
         return Tally {
             moments: p.moments,
             pended: p.pended,

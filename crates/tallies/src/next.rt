@@ -5,9 +5,6 @@ ghost use lib.ListN.{length, replicate};
 ghost use Rattle.backends.specs.Columns.{Column};
 ghost use Rattle.tallies.specs.Appends.{Appends, NextRoom};
 
-// The most entries of a pending list.
-pub const MOST_RECORDS: usize = 4096;
-
 // Appends a key and each of its pended times.
 fn append_pairs(
     key: KeyHash,
@@ -39,11 +36,11 @@ pub fn append_pended(
     times: &mut [u64],
     n: usize,
 ) -> usize
-    requires { ⌜ NextRoom n (now keys) (now times) ⌝ }
-    ensures { λ r. ⌜ Appends (key .0) n (now (pended .entry)) (now (keys .entry)) (now (times .entry)) (now (keys .exit)) (now (times .exit)) r ⌝ }
+    requires { ⌜ NextRoom (length (now keys)) n (now keys) (now times) ⌝ }
+    ensures { λ r. ⌜ Appends (length (now (keys .entry))) (key .0) n (now (pended .entry)) (now (keys .entry)) (now (times .entry)) (now (keys .exit)) (now (times .exit)) r ⌝ }
 {
     let end = n + pended.len();
-    if end > MOST_RECORDS {
+    if end > keys.len() {
         return end;
     }
     append_pairs(key, pended, keys, times, n)

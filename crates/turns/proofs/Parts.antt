@@ -17,7 +17,7 @@ use Rattle.grid.proofs.Sizes.{mass, mass-most}
 use Rattle.grid.proofs.Ascending.{ascending-rest}
 use Rattle.rules.specs.Histories.{Edit, valueOf}
 use Rattle.rules.specs.Call.{editsOf}
-use Rattle.backends.specs.Crossing.{part}
+use Rattle.backends.specs.Segments.{part}
 use Rattle.backends.proofs.Columns.{less}
 use Rattle.grid.proofs.Operations.{no-length}
 use Rattle.keys.specs.Spans.{Reaches, Spans, Level}

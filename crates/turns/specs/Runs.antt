@@ -2,21 +2,20 @@
 --
 -- Runs, runs: the columns. inRows, outRows: the records of the input and of the old output
 -- foundOf R k, slotAt R k: what is found of a key, and its slot when its window begins
--- Good: what is asked of the columns. Asked q: they are those of a request
-use Prim.Native.Nat.{ℕ, _≤_}
+-- Good most: what is asked of the columns; most: the most records of a run, and half the most of the input. Asked q: they are those of a request
+use Prim.Native.Nat.{ℕ, _+_, _≤_}
 use mathlib.Core.List.{List}
 use mathlib.Core.Path.{_≡_}
 use lib.Dec.{leb}
 use lib.IntN.{ℤ}
 use lib.ListN.{length}
-use Rattle.grid.specs.Records.{Row, rows, pairs, mostRecords}
+use Rattle.grid.specs.Records.{Row, rows, pairs}
 use Rattle.grid.proofs.Lists.{All}
 use Rattle.grid.proofs.Sort.{Sorted}
 use Rattle.rules.specs.Discover.{State}
 use Rattle.rules.specs.Call.{Request, together, changed, editsOf, timesOf, pendingOf}
 use Rattle.keys.specs.Spans.{Level}
 use Rattle.keys.proofs.Ranked.{Ranked, Modest}
-use Rattle.tallies.specs.Tallied.{mostInput}
 use Rattle.slots.specs.Slots.{Slot}
 use Rattle.seeking.specs.Sought.{foundIn}
 
@@ -64,19 +63,19 @@ foundOf R = foundIn (R .upper) (R .newKeys) (R .newTimes) (R .pendingKeys) (R .p
 unfoldable pub slotAt : Runs → ℕ → Slot
 slotAt R k = record { key = k; input = editsOf k (inRows R); output = editsOf k (outRows R); moments = foundOf R k .moments }
 
-pub record Good (R : Runs) : Type 0 where
+pub record Good (most : ℕ) (R : Runs) : Type 0 where
   pub new-level : length (R .newTimes) ≡ length (R .newKeys)
-  pub new-few : length (R .newKeys) ≤ mostRecords
+  pub new-few : length (R .newKeys) ≤ most
   pub new-ascends : Sorted leb (R .newKeys)
   pub pending-level : length (R .pendingTimes) ≡ length (R .pendingKeys)
-  pub pending-few : length (R .pendingKeys) ≤ mostRecords
+  pub pending-few : length (R .pendingKeys) ≤ most
   pub pending-ascends : Sorted leb (R .pendingKeys)
   pub in-level : Level (R .inKeys) (R .inValues) (R .inTimes) (R .inDiffs)
-  pub in-few : length (R .inKeys) ≤ mostInput
+  pub in-few : length (R .inKeys) ≤ most + most
   pub in-ranked : Ranked (inRows R)
   pub in-modest : All Modest (R .inDiffs)
   pub out-level : Level (R .outKeys) (R .outValues) (R .outTimes) (R .outDiffs)
-  pub out-few : length (R .outKeys) ≤ mostRecords
+  pub out-few : length (R .outKeys) ≤ most
   pub out-ranked : Ranked (outRows R)
   pub out-modest : All Modest (R .outDiffs)
 

@@ -2,6 +2,7 @@
 use fronts::Fronts;
 use progress::Progress;
 use seeking::seek_window;
+ghost use lib.ListN.{length};
 ghost use Rattle.fronts.specs.Filled.{Full};
 ghost use Rattle.seeking.specs.Sought.{foundIn, Seeks, Reached, Sought};
 ghost use Rattle.turns.specs.Worked.{LentFronts};
@@ -36,9 +37,9 @@ pub fn seek_fronts(
     nt: &mut [u64],
     p: Progress,
 ) -> Fronts
-    requires { ⌜ LentFronts (now keys) (now seeds) (now uv) (now ut) (now ud) (now output) (now res) (now tracked) (now moments) (now iv) (now ov) (now wv) (now id) (now nk) (now nt) p ⌝ }
-    requires { ⌜ Seeks (now newkeys) (now newtimes) (now pendingkeys) (now pendingtimes) (now tk) (now tv) (now tt) (now td) (now outkeys) (now outtimes) × Reached (now newkeys) (now pendingkeys) (now tk) (now outkeys) (now keys) p ⌝ }
-    ensures { λ r. ⌜ Full r × Sought (foundIn (now (upper .entry)) (now (newkeys .entry)) (now (newtimes .entry)) (now (pendingkeys .entry)) (now (pendingtimes .entry)) (now (tk .entry)) (now (tv .entry)) (now (tt .entry)) (now (td .entry)) (now (outkeys .entry)) (now (outtimes .entry))) (now (newkeys .entry)) (now (pendingkeys .entry)) (now (tk .entry)) (now (outkeys .entry)) (now (keys .entry)) p (now (nk .entry)) (now (nt .entry)) (now (moments .exit)) (now (nk .exit)) (now (nt .exit)) (r .mends) (r .ifrom) (r .ito) (r .ofrom) (r .oto) (r .progress) ⌝ }
+    requires { ⌜ LentFronts (length (now nk)) (now keys) (now seeds) (now uv) (now ut) (now ud) (now output) (now res) (now tracked) (now moments) (now iv) (now ov) (now wv) (now id) (now nk) (now nt) p ⌝ }
+    requires { ⌜ Seeks (length (now nk)) (now newkeys) (now newtimes) (now pendingkeys) (now pendingtimes) (now tk) (now tv) (now tt) (now td) (now outkeys) (now outtimes) × Reached (now newkeys) (now pendingkeys) (now tk) (now outkeys) (now keys) p ⌝ }
+    ensures { λ r. ⌜ Full r × Sought (length (now (nk .entry))) (foundIn (now (upper .entry)) (now (newkeys .entry)) (now (newtimes .entry)) (now (pendingkeys .entry)) (now (pendingtimes .entry)) (now (tk .entry)) (now (tv .entry)) (now (tt .entry)) (now (td .entry)) (now (outkeys .entry)) (now (outtimes .entry))) (now (newkeys .entry)) (now (pendingkeys .entry)) (now (tk .entry)) (now (outkeys .entry)) (now (keys .entry)) p (now (nk .entry)) (now (nt .entry)) (now (moments .exit)) (now (nk .exit)) (now (nt .exit)) (r .mends) (r .ifrom) (r .ito) (r .ofrom) (r .oto) (r .progress) ⌝ }
 {
     let mut waiting = [0u64; 1025];
     let mut pended = [0u64; 1025];
@@ -70,9 +71,9 @@ pub fn seek_fronts(
         tracked,
         moments,
         &mut pended,
-        iv,
-        ov,
         wv,
+        ov,
+        iv,
         id,
         nk,
         nt,

@@ -2,6 +2,7 @@
 use crate::first::seek_fronts;
 use fronts::correct_fronts;
 use progress::Progress;
+ghost use lib.ListN.{length};
 ghost use Rattle.turns.specs.Runs.{runs};
 ghost use Rattle.turns.specs.Worked.{LentWork, Takes, Turned};
 
@@ -45,9 +46,9 @@ pub fn work_window(
     res: &mut [u64],
     p: Progress,
 ) -> Progress
-    requires { ⌜ LentWork (now moments) (now uv) (now ut) (now ud) (now iv) (now id) (now ov) (now od) (now cd) (now wv) (now seeds) (now output) (now tracked) (now nk) (now nt) (now fk) (now fv) (now ft) (now fd) (now res) ⌝ }
-    requires { ⌜ Takes (runs (now upper) (now newkeys) (now newtimes) (now pendingkeys) (now pendingtimes) (now tk) (now tv) (now tt) (now td) (now outkeys) (now outvalues) (now outtimes) (now outdiffs)) (now keys) p ⌝ }
-    ensures { λ r. ⌜ Turned (runs (now (upper .entry)) (now (newkeys .entry)) (now (newtimes .entry)) (now (pendingkeys .entry)) (now (pendingtimes .entry)) (now (tk .entry)) (now (tv .entry)) (now (tt .entry)) (now (td .entry)) (now (outkeys .entry)) (now (outvalues .entry)) (now (outtimes .entry)) (now (outdiffs .entry))) mode (now (keys .entry)) p (now (nk .entry)) (now (nt .entry)) (now (fk .entry)) (now (fv .entry)) (now (ft .entry)) (now (fd .entry)) (now (nk .exit)) (now (nt .exit)) (now (fk .exit)) (now (fv .exit)) (now (ft .exit)) (now (fd .exit)) r ⌝ }
+    requires { ⌜ LentWork (length (now fk)) (length (now keys)) (now moments) (now uv) (now ut) (now ud) (now iv) (now id) (now ov) (now od) (now cd) (now wv) (now seeds) (now output) (now tracked) (now nk) (now nt) (now fk) (now fv) (now ft) (now fd) (now res) ⌝ }
+    requires { ⌜ Takes (length (now fk)) (runs (now upper) (now newkeys) (now newtimes) (now pendingkeys) (now pendingtimes) (now tk) (now tv) (now tt) (now td) (now outkeys) (now outvalues) (now outtimes) (now outdiffs)) (now keys) p ⌝ }
+    ensures { λ r. ⌜ Turned (length (now (fk .entry))) (runs (now (upper .entry)) (now (newkeys .entry)) (now (newtimes .entry)) (now (pendingkeys .entry)) (now (pendingtimes .entry)) (now (tk .entry)) (now (tv .entry)) (now (tt .entry)) (now (td .entry)) (now (outkeys .entry)) (now (outvalues .entry)) (now (outtimes .entry)) (now (outdiffs .entry))) mode (now (keys .entry)) p (now (nk .entry)) (now (nt .entry)) (now (fk .entry)) (now (fv .entry)) (now (ft .entry)) (now (fd .entry)) (now (nk .exit)) (now (nt .exit)) (now (fk .exit)) (now (fv .exit)) (now (ft .exit)) (now (fd .exit)) r ⌝ }
 {
     let f = seek_fronts(
         upper,

@@ -13,7 +13,8 @@ use lib.IntN.{ℤ}
 use lib.ListN.{length}
 use mir.Syntax.{w64}
 use mir.Val.{Fits}
-use Rattle.backends.specs.Crossing.{part}
+use Rattle.backends.specs.Segments.{part}
+use Rattle.backends.proofs.Segments.{part-length}
 use Rattle.progress.specs.declared.Progress.{Progress}
 use Rattle.turns.specs.Runs.{Runs}
 use Rattle.turns.specs.Worked.{LentWork, Takes, Turned}
@@ -52,9 +53,9 @@ same-start = record { of-moments = refl; of-uv = refl; of-ut = refl; of-ud = ref
 module _ {moments₀ uv₀ ut₀ : List ℕ} {ud₀ : List ℤ} {iv₀ : List ℕ} {id₀ : List ℤ} {ov₀ : List ℕ} {od₀ cd₀ : List ℤ} {wv₀ seeds₀ output₀ tracked₀ nk₀ nt₀ fk₀ fv₀ ft₀ : List ℕ} {fd₀ : List ℤ} {res₀ : List ℕ}
     {moments uv ut : List ℕ} {ud : List ℤ} {iv : List ℕ} {id : List ℤ} {ov : List ℕ} {od cd : List ℤ} {wv seeds output tracked nk nt fk fv ft : List ℕ} {fd : List ℤ} {res : List ℕ}
     (S : SameLong moments₀ uv₀ ut₀ ud₀ iv₀ id₀ ov₀ od₀ cd₀ wv₀ seeds₀ output₀ tracked₀ nk₀ nt₀ fk₀ fv₀ ft₀ fd₀ res₀ moments uv ut ud iv id ov od cd wv seeds output tracked nk nt fk fv ft fd res) where
-  lent-still : LentWork moments₀ uv₀ ut₀ ud₀ iv₀ id₀ ov₀ od₀ cd₀ wv₀ seeds₀ output₀ tracked₀ nk₀ nt₀ fk₀ fv₀ ft₀ fd₀ res₀ → LentWork moments uv ut ud iv id ov od cd wv seeds output tracked nk nt fk fv ft fd res
-  lent-still l = record {
-    moments-room = rw (S .of-moments) (l .moments-room);
+  lent-still : {most w w′ : ℕ} → w′ ≤ w → LentWork most w moments₀ uv₀ ut₀ ud₀ iv₀ id₀ ov₀ od₀ cd₀ wv₀ seeds₀ output₀ tracked₀ nk₀ nt₀ fk₀ fv₀ ft₀ fd₀ res₀ → LentWork most w′ moments uv ut ud iv id ov od cd wv seeds output tracked nk nt fk fv ft fd res
+  lent-still h l = record {
+    moments-room = omega (arith, S .of-moments, l .moments-room);
     wide = record {
       long-uv = S .of-uv ∙ l .wide .long-uv;
       long-ut = S .of-ut ∙ l .wide .long-ut;
@@ -64,12 +65,14 @@ module _ {moments₀ uv₀ ut₀ : List ℕ} {ud₀ : List ℤ} {iv₀ : List �
       long-ov = S .of-ov ∙ l .wide .long-ov;
       long-od = S .of-od ∙ l .wide .long-od;
       long-cd = S .of-cd ∙ l .wide .long-cd;
+      room-few = l .wide .room-few;
       room-res = rw (S .of-res) (l .wide .room-res);
     };
-    long-wv = S .of-wv ∙ l .long-wv;
+    room-wv = rw (S .of-wv) (l .room-wv);
     long-seeds = S .of-seeds ∙ l .long-seeds;
     long-output = S .of-output ∙ l .long-output;
     long-tracked = S .of-tracked ∙ l .long-tracked;
+    for-tracked = omega (arith, S .of-tracked, S .of-wv, l .for-tracked);
     long-nk = S .of-nk ∙ l .long-nk;
     long-nt = S .of-nt ∙ l .long-nt;
     lent = record { long-k = S .of-fk ∙ l .lent .long-k; long-v = S .of-fv ∙ l .lent .long-v; long-t = S .of-ft ∙ l .lent .long-t; long-d = S .of-fd ∙ l .lent .long-d };
@@ -83,14 +86,14 @@ module _ {moments₀ uv₀ ut₀ : List ℕ} {ud₀ : List ℤ} {iv₀ : List �
 -- ---- the loop
 pub record Going (R : Runs) (mode width : ℕ) (keys : List ℕ) (n : ℕ) (moments₀ uv₀ ut₀ : List ℕ) (ud₀ : List ℤ) (iv₀ : List ℕ) (id₀ : List ℤ) (ov₀ : List ℕ) (od₀ cd₀ : List ℤ) (wv₀ seeds₀ output₀ tracked₀ nk₀ nt₀ fk₀ fv₀ ft₀ : List ℕ) (fd₀ : List ℤ) (res₀ : List ℕ)
     (moments uv ut : List ℕ) (ud : List ℤ) (iv : List ℕ) (id : List ℤ) (ov : List ℕ) (od cd : List ℤ) (wv seeds output tracked nk nt fk fv ft : List ℕ) (fd : List ℤ) (res : List ℕ) (p : ℕ) (w : Progress) : Type 0 where
-  pub loops : Loops R width keys
+  pub loops : Loops (length fk₀) R width keys
   pub all-keys : n ≡ length keys
-  pub lent : LentWork moments₀ uv₀ ut₀ ud₀ iv₀ id₀ ov₀ od₀ cd₀ wv₀ seeds₀ output₀ tracked₀ nk₀ nt₀ fk₀ fv₀ ft₀ fd₀ res₀
+  pub lent : LentWork (length fk₀) (min width (length keys)) moments₀ uv₀ ut₀ ud₀ iv₀ id₀ ov₀ od₀ cd₀ wv₀ seeds₀ output₀ tracked₀ nk₀ nt₀ fk₀ fv₀ ft₀ fd₀ res₀
   pub same : SameLong moments₀ uv₀ ut₀ ud₀ iv₀ id₀ ov₀ od₀ cd₀ wv₀ seeds₀ output₀ tracked₀ nk₀ nt₀ fk₀ fv₀ ft₀ fd₀ res₀ moments uv ut ud iv id ov od cd wv seeds output tracked nk nt fk fv ft fd res
-  pub looping : Looping R mode width keys nk nt fk fv ft fd p w
+  pub looping : Looping (length fk₀) R mode width keys nk nt fk fv ft fd p w
 
 pub going-start : {R : Runs} (mode : ℕ) {width : ℕ} {keys : List ℕ} {n : ℕ} {moments uv ut : List ℕ} {ud : List ℤ} {iv : List ℕ} {id : List ℤ} {ov : List ℕ} {od cd : List ℤ} {wv seeds output tracked nk nt fk fv ft : List ℕ} {fd : List ℤ} {res : List ℕ}
-    → Loops R width keys → n ≡ length keys → LentWork moments uv ut ud iv id ov od cd wv seeds output tracked nk nt fk fv ft fd res → Going R mode width keys n moments uv ut ud iv id ov od cd wv seeds output tracked nk nt fk fv ft fd res moments uv ut ud iv id ov od cd wv seeds output tracked nk nt fk fv ft fd res 0 fresh
+    → Loops (length fk) R width keys → n ≡ length keys → LentWork (length fk) (min width (length keys)) moments uv ut ud iv id ov od cd wv seeds output tracked nk nt fk fv ft fd res → Going R mode width keys n moments uv ut ud iv id ov od cd wv seeds output tracked nk nt fk fv ft fd res moments uv ut ud iv id ov od cd wv seeds output tracked nk nt fk fv ft fd res 0 fresh
 going-start mode {nk = nk} {nt} {fk} {fv} {ft} {fd} l e m = record { loops = l; all-keys = e; lent = m; same = same-start; looping = looping-start mode l nk nt fk fv ft fd }
 
 module _ {R : Runs} {mode width : ℕ} {keys : List ℕ} {n : ℕ} {moments₀ uv₀ ut₀ : List ℕ} {ud₀ : List ℤ} {iv₀ : List ℕ} {id₀ : List ℤ} {ov₀ : List ℕ} {od₀ cd₀ : List ℤ} {wv₀ seeds₀ output₀ tracked₀ nk₀ nt₀ fk₀ fv₀ ft₀ : List ℕ} {fd₀ : List ℤ} {res₀ : List ℕ}
@@ -118,13 +121,16 @@ module _ {R : Runs} {mode width : ℕ} {keys : List ℕ} {n : ℕ} {moments₀ u
     pub going-less : length keys - e < length keys - p
     going-less = looping-less (g .looping) (g .loops) goes′ e-is′
 
-    pub going-asks : LentWork moments uv ut ud iv id ov od cd wv seeds output tracked nk nt fk fv ft fd res × Takes R (part p e keys) w
-    going-asks = (lent-still (g .same) (g .lent), looping-takes (g .looping) (g .loops) goes′ e-is′)
+    window-few : length (part p e keys) ≤ min width (length keys)
+    window-few = omega (arith, part-length p e keys (going-range .0) (going-range .1), e-is′, g .looping .within)
 
-    pub going-more : {nk′ nt′ fk′ fv′ ft′ : List ℕ} {fd′ : List ℤ} {r : Progress} → Turned R mode (part p e keys) w nk nt fk fv ft fd nk′ nt′ fk′ fv′ ft′ fd′ r → Looping R mode width keys nk′ nt′ fk′ fv′ ft′ fd′ e r
+    pub going-asks : LentWork (length fk) (length (part p e keys)) moments uv ut ud iv id ov od cd wv seeds output tracked nk nt fk fv ft fd res × Takes (length fk) R (part p e keys) w
+    going-asks = rw (g .same .of-fk) (lent-still (g .same) window-few (g .lent), looping-takes (g .looping) (g .loops) goes′ e-is′)
+
+    pub going-more : {nk′ nt′ fk′ fv′ ft′ : List ℕ} {fd′ : List ℤ} {r : Progress} → Turned (length fk) R mode (part p e keys) w nk nt fk fv ft fd nk′ nt′ fk′ fv′ ft′ fd′ r → Looping (length fk₀) R mode width keys nk′ nt′ fk′ fv′ ft′ fd′ e r
     going-more T =
-        let m = lent-still (g .same) (g .lent) in
-        looping-more (g .looping) (g .loops) goes′ e-is′ T (m .long-nk) (m .long-nt) (m .lent)
+        let m = lent-still (g .same) window-few (g .lent) in
+        looping-more (g .looping) (g .loops) goes′ e-is′ (rw (g .same .of-fk) at T) (m .long-nk) (m .long-nt) (m .lent)
 
-  pub going-end : {c : Course} → (not (w .over) && ltb p n) ≡ false → c ≡ courseOf w → Ended R mode width keys nk nt fk fv ft fd c
+  pub going-end : {c : Course} → (not (w .over) && ltb p n) ≡ false → c ≡ courseOf w → Ended (length fk₀) R mode width keys nk nt fk fv ft fd c
   going-end t e = rw e (looping-end (g .looping) (g .loops) (sym to-length ∙ t))

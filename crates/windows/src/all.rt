@@ -5,6 +5,8 @@ use looping::window_end;
 use progress::Progress;
 use progress::goes_on;
 use turns::work_window;
+ghost use Prim.Native.Nat.{min};
+ghost use lib.ListN.{length};
 ghost use Rattle.turns.specs.Runs.{runs};
 ghost use Rattle.turns.specs.Worked.{LentWork};
 ghost use Rattle.looping.specs.Looped.{Loops, Ended};
@@ -48,9 +50,9 @@ pub fn work_windows(
     fd: &mut [i64],
     res: &mut [u64],
 ) -> Course
-    requires { ⌜ LentWork (now moments) (now uv) (now ut) (now ud) (now iv) (now id) (now ov) (now od) (now cd) (now wv) (now seeds) (now output) (now tracked) (now nk) (now nt) (now fk) (now fv) (now ft) (now fd) (now res) ⌝ }
-    requires { ⌜ Loops (runs (now upper) (now newkeys) (now newtimes) (now pendingkeys) (now pendingtimes) (now tk) (now tv) (now tt) (now td) (now outkeys) (now outvalues) (now outtimes) (now outdiffs)) width (now keys) ⌝ }
-    ensures { λ r. ⌜ Ended (runs (now (upper .entry)) (now (newkeys .entry)) (now (newtimes .entry)) (now (pendingkeys .entry)) (now (pendingtimes .entry)) (now (tk .entry)) (now (tv .entry)) (now (tt .entry)) (now (td .entry)) (now (outkeys .entry)) (now (outvalues .entry)) (now (outtimes .entry)) (now (outdiffs .entry))) mode width (now (keys .entry)) (now (nk .exit)) (now (nt .exit)) (now (fk .exit)) (now (fv .exit)) (now (ft .exit)) (now (fd .exit)) r ⌝ }
+    requires { ⌜ LentWork (length (now fk)) (min width (length (now keys))) (now moments) (now uv) (now ut) (now ud) (now iv) (now id) (now ov) (now od) (now cd) (now wv) (now seeds) (now output) (now tracked) (now nk) (now nt) (now fk) (now fv) (now ft) (now fd) (now res) ⌝ }
+    requires { ⌜ Loops (length (now fk)) (runs (now upper) (now newkeys) (now newtimes) (now pendingkeys) (now pendingtimes) (now tk) (now tv) (now tt) (now td) (now outkeys) (now outvalues) (now outtimes) (now outdiffs)) width (now keys) ⌝ }
+    ensures { λ r. ⌜ Ended (length (now (fk .entry))) (runs (now (upper .entry)) (now (newkeys .entry)) (now (newtimes .entry)) (now (pendingkeys .entry)) (now (pendingtimes .entry)) (now (tk .entry)) (now (tv .entry)) (now (tt .entry)) (now (td .entry)) (now (outkeys .entry)) (now (outvalues .entry)) (now (outtimes .entry)) (now (outdiffs .entry))) mode width (now (keys .entry)) (now (nk .exit)) (now (nt .exit)) (now (fk .exit)) (now (fv .exit)) (now (ft .exit)) (now (fd .exit)) r ⌝ }
 {
     let n = keys.len();
     let mut p = 0;

@@ -1,7 +1,7 @@
 -- What was lent, and what it says of a call that it passed the checks.
 --
 -- lent-level, lent-room: what it says of the columns, and of the memory, that a call was lent well
--- Room, room-results, room-of: how long the slices of memory are then
+-- Room n m, room-results, room-of: how long the slices of memory are then: n the columns of the input, m the moments
 -- Small, small-of: how many entries the runs, the pending list and the frontiers of a request have that passed the checks 11 and 12
 -- pairs-length: how many entries a pending list has
 -- retired-retires: what is said and left of the rules' answer is what a call has to say and to leave
@@ -14,7 +14,7 @@ use lib.IntN.{ℤ}
 use lib.ListN.{length, length-map}
 use borrow.Author.Tests.{leb-true}
 use Rattle.grid.specs.Frontiers.{mostTimes, isFrontier}
-use Rattle.grid.specs.Records.{mostRecords, pairs}
+use Rattle.grid.specs.Records.{Columns, mostRecords, pairs}
 use Rattle.grid.proofs.Tests.{and-l, and-r}
 use Rattle.rules.specs.Call.{Request, Answer, check11, check12}
 use Rattle.rules.specs.Memory.{Memory, Sizes, Lent, numbersSize, longEnough, roomy, lentWell, callLent, after}
@@ -23,45 +23,45 @@ use Rattle.checks.specs.Checks.{level}
 use Rattle.grid.proofs.Operations.{pairs-keys}
 use Rattle.answers.specs.declared.Outcome.{Outcome}
 use Rattle.demands.specs.Answers.{Retires, Retired}
-use Rattle.demands.specs.Lending.{sizes, memory}
+use Rattle.demands.specs.Lending.{columnNeeded, momentsNeeded, needed, memory, lent}
 
 -- ---- what was lent well
-module _ (l : Lent) (e : lentWell sizes l ≡ true) where
+module _ (l : Lent) (e : lentWell (needed l) l ≡ true) where
   abbrev columnsWell : Bool
   columnsWell = level (l .old) (l .new) (l .out) (l .pendingKeys) (l .pendingTimes)
 
   pub lent-level : columnsWell ≡ true
   unfolding lentWell level
-  lent-level = and-l columnsWell (roomy sizes (l .memory)) e
+  lent-level = and-l columnsWell (roomy (needed l) (l .memory)) e
 
-  pub lent-room : roomy sizes (l .memory) ≡ true
+  pub lent-room : roomy (needed l) (l .memory) ≡ true
   unfolding lentWell level
-  lent-room = and-r columnsWell (roomy sizes (l .memory)) e
+  lent-room = and-r columnsWell (roomy (needed l) (l .memory)) e
 
-pub record Room (res : List ℕ) (rd : List ℤ) (moments tk tv tt uv ut : List ℕ) (td ud : List ℤ) : Type 0 where
+pub record Room (n m : ℕ) (res : List ℕ) (rd : List ℤ) (moments tk tv tt uv ut : List ℕ) (td ud : List ℤ) : Type 0 where
   pub for-numbers : numbersSize ≤ length res
   pub for-diffs : mostRecords ≤ length rd
-  pub for-moments : 65537 ≤ length moments
-  pub for-tk : 8192 ≤ length tk
-  pub for-tv : 8192 ≤ length tv
-  pub for-tt : 8192 ≤ length tt
-  pub for-uv : 8192 ≤ length uv
-  pub for-ut : 8192 ≤ length ut
-  pub for-td : 8192 ≤ length td
-  pub for-ud : 8192 ≤ length ud
+  pub for-moments : m ≤ length moments
+  pub for-tk : n ≤ length tk
+  pub for-tv : n ≤ length tv
+  pub for-tt : n ≤ length tt
+  pub for-uv : n ≤ length uv
+  pub for-ut : n ≤ length ut
+  pub for-td : n ≤ length td
+  pub for-ud : n ≤ length ud
 
 long-more : {A : Type 0} (n : ℕ) (ns : List ℕ) (s : List A) (ss : List (List A)) → longEnough (n ∷ ns) (s ∷ ss) ≡ true → (n ≤ length s) × (longEnough ns ss ≡ true)
 long-more n ns s ss e = (leb-true n (length s) (and-l (leb n (length s)) (longEnough ns ss) e), and-r (leb n (length s)) (longEnough ns ss) e)
 
-module _ (m : Memory) (e : roomy sizes m ≡ true) where
+module _ (z : Sizes) (m : Memory) (e : roomy z m ≡ true) where
   abbrev results : Bool
   results = leb numbersSize (length (m .numbers)) && leb mostRecords (length (m .diffs))
 
   abbrev numbersWork : Bool
-  numbersWork = longEnough (sizes .work) (m .work)
+  numbersWork = longEnough (z .work) (m .work)
 
   abbrev diffsWork : Bool
-  diffsWork = longEnough (sizes .workDiffs) (m .workDiffs)
+  diffsWork = longEnough (z .workDiffs) (m .workDiffs)
 
   pub room-results : (numbersSize ≤ length (m .numbers)) × (mostRecords ≤ length (m .diffs))
   unfolding roomy
@@ -80,19 +80,23 @@ module _ (m : Memory) (e : roomy sizes m ≡ true) where
   room-workDiffs = and-r (results && numbersWork) diffsWork e
 
 pub room-of :
-    (res : List ℕ) (rd : List ℤ) (moments tk tv tt uv ut : List ℕ) (td ud : List ℤ)
-    → roomy sizes (memory res rd moments tk tv tt uv ut td ud) ≡ true → Room res rd moments tk tv tt uv ut td ud
-room-of res rd moments tk tv tt uv ut td ud e =
+    (mode width : ℕ) (lower upper held : List ℕ) (old new out : Columns) (ks ts res : List ℕ) (rd : List ℤ) (moments tk tv tt uv ut : List ℕ) (td ud : List ℤ)
+    → roomy (needed (lent mode width lower upper held old new out ks ts (memory res rd moments tk tv tt uv ut td ud))) (memory res rd moments tk tv tt uv ut td ud) ≡ true
+    → Room (columnNeeded (length (old .keys)) (length (new .keys))) (momentsNeeded width (length (old .keys)) (new .keys) ks) res rd moments tk tv tt uv ut td ud
+unfolding needed
+room-of mode width lower upper held old new out ks ts res rd moments tk tv tt uv ut td ud e =
     let m = memory res rd moments tk tv tt uv ut td ud in
-    let r = room-results m e in
-    let w1 = long-more 65537 (8192 ∷ 8192 ∷ 8192 ∷ 8192 ∷ 8192 ∷ []) moments (tk ∷ tv ∷ tt ∷ uv ∷ ut ∷ []) (room-work m e) in
-    let w2 = long-more 8192 (8192 ∷ 8192 ∷ 8192 ∷ 8192 ∷ []) tk (tv ∷ tt ∷ uv ∷ ut ∷ []) (w1 .1) in
-    let w3 = long-more 8192 (8192 ∷ 8192 ∷ 8192 ∷ []) tv (tt ∷ uv ∷ ut ∷ []) (w2 .1) in
-    let w4 = long-more 8192 (8192 ∷ 8192 ∷ []) tt (uv ∷ ut ∷ []) (w3 .1) in
-    let w5 = long-more 8192 (8192 ∷ []) uv (ut ∷ []) (w4 .1) in
-    let w6 = long-more 8192 [] ut [] (w5 .1) in
-    let d1 = long-more 8192 (8192 ∷ []) td (ud ∷ []) (room-workDiffs m e) in
-    let d2 = long-more 8192 [] ud [] (d1 .1) in
+    let z : Sizes = needed (lent mode width lower upper held old new out ks ts m) in
+    let n = columnNeeded (length (old .keys)) (length (new .keys)) in
+    let r = room-results z m e in
+    let w1 = long-more (momentsNeeded width (length (old .keys)) (new .keys) ks) (n ∷ n ∷ n ∷ n ∷ n ∷ []) moments (tk ∷ tv ∷ tt ∷ uv ∷ ut ∷ []) (room-work z m e) in
+    let w2 = long-more n (n ∷ n ∷ n ∷ n ∷ []) tk (tv ∷ tt ∷ uv ∷ ut ∷ []) (w1 .1) in
+    let w3 = long-more n (n ∷ n ∷ n ∷ []) tv (tt ∷ uv ∷ ut ∷ []) (w2 .1) in
+    let w4 = long-more n (n ∷ n ∷ []) tt (uv ∷ ut ∷ []) (w3 .1) in
+    let w5 = long-more n (n ∷ []) uv (ut ∷ []) (w4 .1) in
+    let w6 = long-more n [] ut [] (w5 .1) in
+    let d1 = long-more n (n ∷ []) td (ud ∷ []) (room-workDiffs z m e) in
+    let d2 = long-more n [] ud [] (d1 .1) in
     record {
       for-numbers = r .0;
       for-diffs = r .1;
@@ -150,7 +154,7 @@ pub pairs-length : (ks ts : List ℕ) → length ts ≡ length ks → length (pa
 pairs-length ks ts e = sym (length-map (pairs ks ts) (λ (p : ℕ × ℕ). p .0)) ∙ ap length (pairs-keys ks ts e)
 
 -- ---- the answer of a call
-pub retired-retires : {z : Sizes} {l : Lent} {a : Answer} {r : Outcome} {m′ : Memory} → callLent z l ≡ a → Retired a (l .memory) r m′ → Retires z l r m′
+pub retired-retires : {z : Lent → Sizes} {l : Lent} {a : Answer} {r : Outcome} {m′ : Memory} → callLent (z l) l ≡ a → Retired a (l .memory) r m′ → Retires z l r m′
 unfolding after
 retired-retires {z} {l} {a} {r} {m′} e R = record {
   status-is = rw e (R .tells .status-is);

@@ -1,11 +1,11 @@
 -- A call that works: what the checks say of its runs, and what it leaves.
 --
 -- begins-room: how long its memory is. runsOf l c: its runs as its windows read them, c being its input
--- forms, forms-room: what forming the input asks. form-lends: so its places find room too
+-- forms, forms-room: what forming the input asks
 -- asked, few, answering: the runs are the request's, and are as the rest of the work asks
 -- work-retires: what the call says and leaves
 -- formed-part, kept, reach, same-six, same-two: lengths
-use Prim.Native.Nat.{ℕ, _+_, _-_, _≤_}
+use Prim.Native.Nat.{ℕ, _+_, _-_, _*_, _≤_, _<_, min}
 use native.Mathlib.Nat.{sub-zero}
 use native.Mathlib.Omega.{arith}
 use mathlib.Core.Bool.{Bool, true, _&&_}
@@ -22,7 +22,7 @@ use Rattle.rules.specs.Call.{check14, check15, call}
 use Rattle.rules.specs.Memory.{Memory, Lent, alike, rowsOf, requestOf}
 use Rattle.rules.proofs.Memory.{lent-well, work-cleared, workDiffs-cleared}
 use Rattle.checks.proofs.Rows.{alike-values, alike-times, level-old, level-new, level-out, level-pending}
-use Rattle.input.specs.Formed.{Lending, Formed, cut, columns}
+use Rattle.input.specs.Formed.{Formed, cut, columns}
 use Rattle.input.specs.Formed as input
 use Rattle.keys.specs.Spans.{Level}
 use Rattle.keys.proofs.Spans.{keyOf, rows-keys, rows-diffs, times-of}
@@ -31,7 +31,8 @@ use Rattle.keys.proofs.Ranked.{ranked-run, ranked-together, ranked-keys, pendin
 use Rattle.answers.specs.declared.Outcome.{Outcome}
 use Rattle.turns.specs.Runs.{Runs, runs, Good, Asked}
 use Rattle.demands.specs.Answers.{Retires}
-use Rattle.demands.specs.Lending.{sizes, memory, lent}
+use Rattle.demands.specs.Lending.{heads, columnNeeded, momentsNeeded, needed, memory, lent}
+use Rattle.demands.proofs.Lending.{changed-few}
 use Rattle.concluding.specs.Answered.{Answering, Answered}
 use Rattle.concluding.proofs.Answering.{works-writes, tells-same}
 use Rattle.working.specs.Begun.{Begins, Forms}
@@ -53,9 +54,10 @@ module _ (c : Columns) (e : alike c ≡ true) where
 -- ---- a call that begins to work
 pub begins-room :
     {mode width : ℕ} {lower upper held : List ℕ} {old new out : Columns} {ks ts res : List ℕ} {rd : List ℤ} {moments tk tv tt uv ut : List ℕ} {td ud : List ℤ}
-    → Begins (lent mode width lower upper held old new out ks ts (memory res rd moments tk tv tt uv ut td ud)) → Room res rd moments tk tv tt uv ut td ud
+    → Begins (lent mode width lower upper held old new out ks ts (memory res rd moments tk tv tt uv ut td ud))
+    → Room (columnNeeded (length (old .keys)) (length (new .keys))) (momentsNeeded width (length (old .keys)) (new .keys) ks) res rd moments tk tv tt uv ut td ud
 begins-room {mode} {width} {lower} {upper} {held} {old} {new} {out} {ks} {ts} {res} {rd} {moments} {tk} {tv} {tt} {uv} {ut} {td} {ud} B =
-    room-of res rd moments tk tv tt uv ut td ud (lent-room (lent mode width lower upper held old new out ks ts (memory res rd moments tk tv tt uv ut td ud)) (B .well))
+    room-of mode width lower upper held old new out ks ts res rd moments tk tv tt uv ut td ud (lent-room (lent mode width lower upper held old new out ks ts (memory res rd moments tk tv tt uv ut td ud)) (B .well))
 
 abbrev pub runsOf : Lent → Columns → Runs
 runsOf l c =
@@ -101,6 +103,19 @@ module _ {l : Lent} (B : Begins l) where
   unfolding check14 requestOf
   good-out = and-r (goodRun (rowsOf (l .old)) && goodRun (rowsOf (l .new))) (goodRun (rowsOf (l .out))) (B .works .accepted .holds-14)
 
+  -- ---- how long memory is
+  column-is : columnNeeded (length (l .old .keys)) (length (l .new .keys)) ≡ length (l .old .keys) + length (l .new .keys)
+  unfolding columnNeeded
+  column-is = omega (arith, old-few, new-few)
+
+  column-moments : columnNeeded (length (l .old .keys)) (length (l .new .keys)) ≤ momentsNeeded (l .width) (length (l .old .keys)) (l .new .keys) (l .pendingKeys)
+  unfolding momentsNeeded
+  column-moments = omega arith
+
+  window-moments : min (min (l .width) 64) (heads (l .new .keys) + heads (l .pendingKeys)) * 1024 < momentsNeeded (l .width) (length (l .old .keys)) (l .new .keys) (l .pendingKeys)
+  unfolding momentsNeeded
+  window-moments = omega arith
+
   -- ---- forming the input
   pub forms : input.Runs (l .old) (l .new)
   forms =
@@ -113,11 +128,13 @@ module _ {l : Lent} (B : Begins l) where
 
   pub forms-room :
       {res : List ℕ} {rd : List ℤ} {moments tk tv tt uv ut : List ℕ} {td ud : List ℤ}
-      → Room res rd moments tk tv tt uv ut td ud
+      → Room (columnNeeded (length (l .old .keys)) (length (l .new .keys))) (momentsNeeded (l .width) (length (l .old .keys)) (l .new .keys) (l .pendingKeys)) res rd moments tk tv tt uv ut td ud
       → Forms (length (l .old .keys) + length (l .new .keys)) (columns uv ut moments ud) res (columns tk tv tt td)
   forms-room r =
       let o = old-few in
       let n = new-few in
+      let h = column-is in
+      let k = column-moments in
       record {
         few = omega arith;
         for-both = record { for-keys = omega (arith, r .for-uv); for-values = omega (arith, r .for-ut); for-times = omega (arith, r .for-moments); for-diffs = omega (arith, r .for-ud) };
@@ -140,8 +157,8 @@ module _ {l : Lent} (B : Begins l) where
       pending-is = refl;
     }
 
-    pub few : n ≤ 8192
-    few = let o = old-few in let m = new-few in omega (arith, F .count)
+    pub few : n ≤ columnNeeded (length (l .old .keys)) (length (l .new .keys))
+    few = omega (arith, F .count, column-is)
 
     module _ (r : input.Fits n c) where
       input-level : Level (cut n c .keys) (cut n c .values) (cut n c .times) (cut n c .diffs)
@@ -152,7 +169,7 @@ module _ {l : Lent} (B : Begins l) where
           let d : length (take n (c .diffs)) ≡ n = rw length-take (omega (arith, r .for-diffs)) in
           record { values-long = v ∙ sym k; times-long = t ∙ sym k; diffs-long = d ∙ sym k }
 
-      good : Good (runsOf l (cut n c))
+      good : Good mostRecords (runsOf l (cut n c))
       unfolding rowsOf check15 requestOf
       good = record {
         new-level = alike-times (l .new) (levels .1);
@@ -162,7 +179,7 @@ module _ {l : Lent} (B : Begins l) where
         pending-few = pending-few;
         pending-ascends = rw (pairs-keys (l .pendingKeys) (l .pendingTimes) (levels .3)) at (pending-keys (requestOf l .pending) (B .works .accepted .holds-15));
         in-level = input-level;
-        in-few = rw length-take (omega (arith, few));
+        in-few = rw length-take (let o = old-few in let m = new-few in omega (arith, few, column-is));
         in-ranked = rw (F .input-is) (ranked-together (rowsOf (l .old)) (rowsOf (l .new)));
         in-modest = rw (← rows-diffs input-level, F .input-is) (together-diffs (rowsOf (l .old)) (rowsOf (l .new)) good-old good-new);
         out-level = run-level (l .out) (levels .2);
@@ -173,28 +190,21 @@ module _ {l : Lent} (B : Begins l) where
 
       -- work memory may have changed, but for its length
       pub answering :
-          {moments uv ut : List ℕ} {ud : List ℤ} {res : List ℕ} {rd : List ℤ}
-          → 65537 ≤ length moments → 8192 ≤ length uv → 8192 ≤ length ut → 8192 ≤ length ud → 25632 ≤ length res → 4096 ≤ length rd
-          → Answering (runsOf l (cut n c)) (l .width) (l .lower) (l .held) moments uv ut ud res rd
+          {moments res : List ℕ} {rd : List ℤ} → momentsNeeded (l .width) (length (l .old .keys)) (l .new .keys) (l .pendingKeys) ≤ length moments → 25632 ≤ length res → 4096 ≤ length rd
+          → Answering mostRecords (runsOf l (cut n c)) (l .width) (l .lower) (l .held) moments res rd
       unfolding requestOf
-      answering a b d e f g = record {
+      answering a f g = record {
         good = good;
+        room-few = omega arith;
         wide = small .wide;
         narrow = small .narrow;
         few-lower = small .few-lower;
         few-upper = small .few-upper;
         few-held = small .few-held;
-        room-moments = omega arith;
-        room-values = b;
-        room-times = d;
-        room-diffs = e;
+        room-moments = (let k = window-moments in let w = small .narrow in omega (arith, changed-few (l .new .keys) (l .pendingKeys)));
         wide-numbers = f;
         wide-diffs = g;
       }
-
--- ---- the places of the records
-pub form-lends : {n : ℕ} {both all : Columns} {work : List ℕ} (places : List ℕ) → length places ≡ 8192 → Forms n both work all → Lending n both places work all
-form-lends places e f = record { for-both = f .for-both; for-places = omega (arith, f .few); for-work = f .for-work; for-all = f .for-all }
 
 -- ---- what the call leaves
 pub work-retires :
@@ -203,13 +213,13 @@ pub work-retires :
     → Answered R (l .mode) (l .width) (l .lower) (l .held) r res (m′ .numbers) (l .memory .diffs) (m′ .diffs) → length res ≡ length (l .memory .numbers)
     → ns ≡ map length (l .memory .work) → m′ .work ≡ map (λ n. replicate n 0) ns
     → ms ≡ map length (l .memory .workDiffs) → m′ .workDiffs ≡ map (λ n. replicate n (pos 0)) ms
-    → Retires sizes l r m′
+    → Retires needed l r m′
 unfolding requestOf
 work-retires {l} B A T h nl ne ml me =
     let q = requestOf l in
     let e = works-writes q (B .works) in
-    retired-retires (lent-well sizes l (B .well)) (record {
-      tells = tells-same (B .works) h (T .answers q (B .works) A refl refl);
+    retired-retires (lent-well (needed l) l (B .well)) (record {
+      tells = tells-same (B .works) h refl (T .answers q (B .works) A refl refl);
       work-is = ne ∙ ap (map (λ n. replicate n 0)) nl ∙ map-map (λ n. replicate n 0) length (l .memory .work) ∙ sym (work-cleared (call q) (l .memory) e);
       workDiffs-is = me ∙ ap (map (λ n. replicate n (pos 0))) ml ∙ map-map (λ n. replicate n (pos 0)) length (l .memory .workDiffs) ∙ sym (workDiffs-cleared (call q) (l .memory) e);
     })
@@ -222,7 +232,7 @@ formed-part F = rw sub-zero F
 pub kept : {n a b : ℕ} → a ≡ b → n ≤ b → n ≤ a
 kept e h = omega arith
 
-pub reach : {n m : ℕ} → n ≤ 8192 → 8192 ≤ m → n ≤ m
+pub reach : {n k m : ℕ} → n ≤ k → k ≤ m → n ≤ m
 reach h k = omega arith
 
 pub same-six : {a b c d e f a′ b′ c′ d′ e′ f′ : ℕ} → a ≡ a′ → b ≡ b′ → c ≡ c′ → d ≡ d′ → e ≡ e′ → f ≡ f′ → (a ∷ b ∷ c ∷ d ∷ e ∷ f ∷ []) ≡ (a′ ∷ b′ ∷ c′ ∷ d′ ∷ e′ ∷ f′ ∷ [])

@@ -11,10 +11,10 @@ use Rattle.rules.specs.Memory.{Lent, lentWell, requestOf}
 use Rattle.rules.proofs.Statuses.{Works}
 use Rattle.input.specs.Formed.{Fits}
 use Rattle.tallies.specs.Tallied.{mostInput}
-use Rattle.demands.specs.Lending.{sizes}
+use Rattle.demands.specs.Lending.{needed}
 
 pub record Begins (l : Lent) : Type 0 where
-  pub well : lentWell sizes l ≡ true
+  pub well : lentWell (needed l) l ≡ true
   pub works : Works (requestOf l)
 
 -- n records of the input find room

@@ -32,7 +32,7 @@ same-length-5 c = search needs
 
 -- src/conclude.rt:14:1
 returns : tie.Need-returns
-returns c = worked-tells (c .before .before .before .before .before .before .before .before .before .before .before .before .before .before .before .before .before .before .before .before .before .before .before .before .before .before .before .before .args .c .crossings) (c .before .before .before .before .before .before .before .before .before .publish .ensures .0)
+returns c = worked-tells (c .before .before .before .before .before .before .before .before .before .before .before .before .before .before .before .before .before .before .before .before .before .before .before .before .before .before .before .before .args .c .crossings) (c .before .before .before .before .before .before .before .before .before .publish .ensures)
 
 pub say-worked-spec : {M : Type 1} → statement M
 say-worked-spec =

@@ -10,7 +10,7 @@ use Rattle.plain.proofs.key.rounds_plainly.Lts as lts
 
 abbrev Inv-loop : tie.InvT-loop
 Inv-loop mode key moments values times diffs n uv₀ ut₀ ud₀ iv₀ id₀ ov₀ od₀ cv₀ cd₀ marks₀ fk₀ fv₀ ft₀ fd₀ fixes j₀ u₀ k₀ large₀ uv ut ud iv id ov od cv cd marks fk fv ft fd j u k large =
-    Going mode (key .0) moments values times diffs n uv₀ ut₀ ud₀ iv₀ id₀ ov₀ od₀ cv₀ cd₀ marks₀ fk₀ fv₀ ft₀ fd₀ fixes uv ut ud iv id ov od cv cd marks fk fv ft fd j u k large
+    Going (length fk₀) mode (key .0) moments values times diffs n uv₀ ut₀ ud₀ iv₀ id₀ ov₀ od₀ cv₀ cd₀ marks₀ fk₀ fv₀ ft₀ fd₀ fixes uv ut ud iv id ov od cv cd marks fk fv ft fd j u k large
 
 abbrev μ-loop : tie.MeasureT-loop
 μ-loop mode key moments values times diffs n uv₀ ut₀ ud₀ iv₀ id₀ ov₀ od₀ cv₀ cd₀ marks₀ fk₀ fv₀ ft₀ fd₀ fixes j₀ u₀ k₀ large₀ uv ut ud iv id ov od cv cd marks fk fv ft fd j u k large =

@@ -10,7 +10,7 @@ use Rattle.replay.proofs.all.replay_rounds.Lts as lts
 
 abbrev Inv-loop : tie.InvT-loop
 Inv-loop mode key moments far e sv st sd xv₀ xt₀ xd₀ uv₀ ut₀ ud₀ iv₀ id₀ ov₀ od₀ cv₀ cd₀ marks₀ fk₀ fv₀ ft₀ fd₀ fixes j₀ w₀ xv xt xd uv ut ud iv id ov od cv cd marks fk fv ft fd j w =
-    Playing mode (key .0) moments far e sv st sd xv₀ xt₀ xd₀ uv₀ ut₀ ud₀ iv₀ id₀ ov₀ od₀ cv₀ cd₀ marks₀ fk₀ fv₀ ft₀ fd₀ fixes xv xt xd uv ut ud iv id ov od cv cd marks fk fv ft fd j w
+    Playing (length fk₀) mode (key .0) moments far e sv st sd xv₀ xt₀ xd₀ uv₀ ut₀ ud₀ iv₀ id₀ ov₀ od₀ cv₀ cd₀ marks₀ fk₀ fv₀ ft₀ fd₀ fixes xv xt xd uv ut ud iv id ov od cv cd marks fk fv ft fd j w
 
 abbrev μ-loop : tie.MeasureT-loop
 μ-loop mode key moments far e sv st sd xv₀ xt₀ xd₀ uv₀ ut₀ ud₀ iv₀ id₀ ov₀ od₀ cv₀ cd₀ marks₀ fk₀ fv₀ ft₀ fd₀ fixes j₀ w₀ xv xt xd uv ut ud iv id ov od cv cd marks fk fv ft fd j w =

@@ -1,9 +1,5 @@
-use Rattle.results.proofs.Told.{tiles-given, fixes-given}
-use Rattle.placing.proofs.Parts.{from-zero}
-use Rattle.results.proofs.Told.{lists-given, worked-told}
-use lib.ListN.{replicate}
 use mathlib.Core.Path.{_∙_}
-use mathlib.Core.List.{[], _∷_}
+use Rattle.results.proofs.Told.{tiles-given, fixes-given, lists-given, worked-told}
 use borrow.Author.Needs.{needs}
 use Rattle.results.proofs.worked.publish.Statement.{statement}
 use Rattle.results.proofs.worked.publish.Tie as tie
@@ -15,49 +11,46 @@ publish-tiles-requires : tie.Need-publish-tiles-requires
 publish-tiles-requires c κs = tiles-given (c .before .before .before .before .before .before .before .before .before .before .before .before .before .before .before .before .before .before .before .before .before .pre) _ (c .before .before .before .before .res .given)
 
 publish-fixes-requires : tie.Need-publish-fixes-requires
-publish-fixes-requires c κs = fixes-given (c .before .before .before .before .before .before .before .before .before .before .before .before .before .before .before .before .before .before .before .before .before .before .before .before .before .before .before .before .before .before .before .pre) _ _ _ (c .before .before .before .before .before .before .before .before .out .given) (c .before .before .before .before .before .before .res2 .given ∙ c .before .before .before .before .before .before .before .before .before .before .before .before .before .before .res .given) (c .before .before .before .before .before .before .before .before .before .before .before .before .rd .given)
+publish-fixes-requires c κs = fixes-given (c .before .before .before .before .before .before .before .before .before .before .before .before .before .before .before .before .before .before .before .before .before .before .before .before .before .before .before .before .before .before .before .pre) _ _ _ (c .before .before .before .before .before .before .before .before .out .given) ((c .before .before .before .before .before .before .res2 .given) ∙ (c .before .before .before .before .before .before .before .before .before .before .before .before .before .before .res .given)) (c .before .before .before .before .before .before .before .before .before .before .before .before .rd .given)
 
 sub-publish-lists : tie.Need-sub-publish-lists
-sub-publish-lists c = from-zero _
+sub-publish-lists c = search needs
 
 part-publish-lists-start : tie.Need-part-publish-lists-start
-part-publish-lists-start c = from-zero _
+part-publish-lists-start c = search needs
 
 part-publish-lists-end : tie.Need-part-publish-lists-end
 part-publish-lists-end c = c .before .before .before .before .before .before .before .before .before .before .before .before .before .before .before .before .before .before .before .before .before .before .before .before .before .before .before .before .before .before .before .before .before .before .before .before .before .before .before .pre .in-pendkeys
 
 sub-publish-lists-2 : tie.Need-sub-publish-lists-2
-sub-publish-lists-2 c = from-zero _
+sub-publish-lists-2 c = search needs
 
 part-publish-lists-start-2 : tie.Need-part-publish-lists-start-2
-part-publish-lists-start-2 c = from-zero _
+part-publish-lists-start-2 c = search needs
 
 part-publish-lists-end-2 : tie.Need-part-publish-lists-end-2
 part-publish-lists-end-2 c = c .before .before .before .before .before .before .before .before .before .before .before .before .before .before .before .before .before .before .before .before .before .before .before .before .before .before .before .before .before .before .before .before .before .before .before .before .before .before .before .before .pre .in-pendtimes
 
 publish-lists-requires : tie.Need-publish-lists-requires
-publish-lists-requires c κs = lists-given (c .before .before .before .before .before .before .before .before .before .before .before .before .before .before .before .before .before .before .before .before .before .before .before .before .before .before .before .before .before .before .before .before .before .before .before .before .before .before .before .before .before .before .pre) (c .before .before .before .before .before .res3 .given ∙ c .before .before .before .before .before .before .before .before .before .before .before .before .before .before .before .before .before .res2 .given ∙ c .before .before .before .before .before .before .before .before .before .before .before .before .before .before .before .before .before .before .before .before .before .before .before .before .before .res .given)
-
-clear-three-requires : tie.Need-clear-three-requires
-clear-three-requires c κs = search needs
+publish-lists-requires c κs = lists-given (c .before .before .before .before .before .before .before .before .before .before .before .before .before .before .before .before .before .before .before .before .before .before .before .before .before .before .before .before .before .before .before .before .before .before .before .before .before .before .before .before .before .before .pre) ((c .before .before .before .before .before .res3 .given) ∙ (c .before .before .before .before .before .before .before .before .before .before .before .before .before .before .before .before .before .res2 .given) ∙ (c .before .before .before .before .before .before .before .before .before .before .before .before .before .before .before .before .before .before .before .before .before .before .before .before .before .res .given))
 
 same-length : tie.Need-same-length
-same-length c = c .before .before .before .before .before .out2 .given ∙ c .before .before .before .before .before .before .before .before .before .before .before .before .before .before .before .before .before .before .before .before .before .before .before .before .before .before .before .before .before .before .before .before .out .given
+same-length c = search needs
 
 same-length-2 : tie.Need-same-length-2
-same-length-2 c = c .before .before .before .places2 .given ∙ c .before .before .before .before .before .before .before .before .before .before .before .before .before .before .before .before .before .before .before .before .before .before .places .given
+same-length-2 c = search needs
 
 same-length-3 : tie.Need-same-length-3
-same-length-3 c = c .before .work2 .given ∙ c .before .before .before .before .before .before .before .before .before .before .before .before .before .before .before .before .before .before .before .before .work .given
+same-length-3 c = search needs
 
 same-length-4 : tie.Need-same-length-4
-same-length-4 c = c .before .before .before .before .before .before .before .before .before .before .before .res4 .given ∙ c .before .before .before .before .before .before .before .before .before .before .before .before .before .before .before .before .before .before .res3 .given ∙ c .before .before .before .before .before .before .before .before .before .before .before .before .before .before .before .before .before .before .before .before .before .before .before .before .before .before .before .before .before .before .res2 .given ∙ c .before .before .before .before .before .before .before .before .before .before .before .before .before .before .before .before .before .before .before .before .before .before .before .before .before .before .before .before .before .before .before .before .before .before .before .before .before .before .res .given
+same-length-4 c = search needs
 
 same-length-5 : tie.Need-same-length-5
-same-length-5 c = c .before .before .before .before .before .before .before .before .before .before .before .before .before .before .before .before .rd2 .given ∙ c .before .before .before .before .before .before .before .before .before .before .before .before .before .before .before .before .before .before .before .before .before .before .before .before .before .before .before .before .before .before .before .before .before .before .before .before .rd .given
+same-length-5 c = search needs
 
 returns : tie.Need-returns
-returns c = (worked-told (c .before .before .before .before .before .before .before .before .before .before .before .before .before .before .before .before .before .before .before .before .before .before .before .before .before .before .before .before .before .before .before .before .before .before .before .before .before .before .before .before .before .before .before .before .before .before .before .before .before .before .before .before .before .before .before .pre) (c .before .before .before .before .before .before .before .before .before .before .before .before .before .before .before .before .before .before .before .before .before .before .before .before .before .before .before .before .before .before .before .before .before .before .before .before .before .before .before .clear-results .ensures) (c .before .before .before .before .before .before .before .before .before .before .before .before .before .before .before .before .before .before .before .before .before .before .before .before .before .before .before .before .before .before .before .before .before .publish-tiles .ensures) (c .before .before .before .before .before .before .before .before .before .before .before .before .before .before .before .before .before .before .before .before .before .before .before .publish-fixes .ensures) (c .before .before .before .before .before .before .before .before .before .before .before .before .publish-lists .ensures), c .before .before .before .before .before .before .clear-three .ensures ∙ (λ i. replicate (c .before .before .before .before .before .before .before .before .before .before .before .before .before .before .before .before .before .before .before .before .before .before .before .before .before .before .before .before .before .before .before .before .out .given i) 0 ∷ replicate (c .before .before .before .before .before .before .before .before .before .before .before .before .before .before .before .before .before .before .before .before .before .before .places .given i) 0 ∷ replicate (c .before .before .before .before .before .before .before .before .before .before .before .before .before .before .before .before .before .before .before .before .work .given i) 0 ∷ []))
+returns c = worked-told (c .before .before .before .before .before .before .before .before .before .before .before .before .before .before .before .before .before .before .before .before .before .before .before .before .before .before .before .before .before .before .before .before .before .before .before .before .before .before .before .before .before .before .before .before .before .pre) (c .before .before .before .before .before .before .before .before .before .before .before .before .before .before .before .before .before .before .before .before .before .before .before .before .before .before .before .before .before .clear-results .ensures) (c .before .before .before .before .before .before .before .before .before .before .before .before .before .before .before .before .before .before .before .before .before .before .before .publish-tiles .ensures) (c .before .before .before .before .before .before .before .before .before .before .before .before .before .publish-fixes .ensures) (c .before .before .publish-lists .ensures)
 
 pub publish-spec : {M : Type 1} → statement M
 publish-spec =
@@ -73,7 +66,6 @@ publish-spec =
     part-publish-lists-start-2
     part-publish-lists-end-2
     publish-lists-requires
-    clear-three-requires
     same-length
     same-length-2
     same-length-3
