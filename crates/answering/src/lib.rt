@@ -1,5 +1,7 @@
 // What is printed for the bytes of a request: the whole reply, whatever the bytes are. All memory of a call is local; the program runs in 4 MB of
 // stack.
+#![tactic(auto)]
+
 ghost use Rattle.std.specs.Prelude.{ℕ, ◌≤◌, List, ◌≡◌, length, take};
 ghost use Rattle.form.specs.Read.{parse};
 ghost use Rattle.form.specs.Show.{reply};

@@ -1,4 +1,6 @@
 // The answer of a call: which it is, and result memory with it.
+#![tactic(auto)]
+
 mod others;
 mod worked;
 

@@ -1,4 +1,6 @@
 // "Backends": what is wanted of a key's summed input, minus what is present of its output.
+#![tactic(auto)]
+
 mod correction;
 mod listed;
 

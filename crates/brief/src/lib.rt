@@ -1,4 +1,6 @@
 // The answer of a call of few records.
+#![tactic(auto)]
+
 ghost use Rattle.turns.specs.Runs.{runs};
 ghost use Rattle.concluding.specs.Answered.{Answering, Tries};
 

@@ -1,4 +1,6 @@
 // What answering a call asks and leaves: of every call, and of a call of few records, which is tried in less memory first.
+#![tactic(auto)]
+
 ghost use Rattle.std.specs.Prelude.{true, false, ◌≡◌};
 ghost use Rattle.concluding.specs.Answered.{Few};
 

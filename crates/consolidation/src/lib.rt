@@ -1,5 +1,7 @@
 // Consolidation of entries that are lent in three columns: ascending by the first two, with the diffs of equal entries added and zeros
 // dropped. An order by (time, value) lends times first, an order by (value, time) values first.
+#![tactic(auto)]
+
 ghost use Rattle.std.specs.Prelude.{◌≡◌, map, ◌<◌, length, drop};
 ghost use Rattle.slices.specs.Places.{entry};
 ghost use Rattle.distinct.specs.Sets.{ends_run};

@@ -1,5 +1,7 @@
 // "The replay's place is one small record, stepped in place." Loops step it by value (histories::step_while_time_is); this is the same step of a place
 // that stays where it is.
+#![tactic(auto)]
+
 ghost use Rattle.std.specs.Prelude.{eqb, length};
 ghost use Rattle.histories.specs.Places.{Placed, Steps};
 ghost use Rattle.cursor.specs.Told.{told};

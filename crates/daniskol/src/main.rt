@@ -1,4 +1,6 @@
 // Answers the request on standard input.
+#![tactic(auto)]
+
 use answering::TEXT_SIZE;
 use libc::{STDIN_FILENO, STDOUT_FILENO};
 

@@ -1,4 +1,6 @@
 // Single diffs, and columns of them: zero, range, differences, sums.
+#![tactic(auto)]
+
 ghost use Rattle.std.specs.Prelude.{◌≤◌, ◌<◌, ◌^◌, ◌≡◌, pos, ◌+ℤ◌, neg_ℤ, nat_abs, length};
 ghost use Rattle.std.specs.Int.Signed.{mag};
 ghost use Rattle.grid.specs.Consolidate.{is_zero};

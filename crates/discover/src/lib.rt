@@ -1,4 +1,6 @@
 // discover_times, per key.
+#![tactic(auto)]
+
 mod key;
 mod loads;
 mod walks;

@@ -1,4 +1,6 @@
 // discover_times as a call: total, with a status.
+#![tactic(auto)]
+
 mod call;
 mod sizes;
 

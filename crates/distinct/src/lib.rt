@@ -1,4 +1,6 @@
 // Sets of times: strictly ascending lists at the front of a lent slice.
+#![tactic(auto)]
+
 ghost use Rattle.std.specs.Prelude.{◌≡◌, true, ◌&&◌, [], ◌∷◌, ◌++◌, ◌+◌, ◌≤◌, ◌<◌, eqb, leb, ltb, length, take, drop, get_or};
 ghost use Rattle.grid.specs.Lists.{sort, front, ascending};
 ghost use Rattle.grid.specs.Times.{puts};

@@ -1,5 +1,7 @@
 // ValueHistory: edits, each a time, a value and a diff, replayed in ascending order of time. A history and its buffer share three lent
 // columns, as a TimeHistory and its buffer share one.
+#![tactic(auto)]
+
 mod buffer;
 mod order;
 mod stepping;

@@ -1,5 +1,7 @@
 // What a step of bilinear_wave is made of: the head comparison, the other's buffer advanced, and the pairs of an edit with it, appended to four
 // columns.
+#![tactic(auto)]
+
 mod advance;
 mod columns;
 mod emit;

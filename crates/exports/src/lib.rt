@@ -1,4 +1,6 @@
 // The call for programs in Rust and C, and the line form: numbers and slices only. A slice crosses as its address and its length.
+#![tactic(auto)]
+
 ghost use Rattle.std.specs.Prelude.{◌≡◌, ◌≤◌};
 ghost use Rattle.rules.specs.Memory.{numbers_size};
 ghost use Rattle.form.specs.Show.{reply};

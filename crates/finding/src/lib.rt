@@ -1,4 +1,6 @@
 // A window's discovery: its keys' moments and their pended times.
+#![tactic(auto)]
+
 mod all;
 mod single;
 

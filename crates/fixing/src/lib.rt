@@ -1,4 +1,6 @@
 // "Retire": a key's round once what is seen of it is known: its correction, as records beside those so far.
+#![tactic(auto)]
+
 mod appends;
 mod moment;
 mod ranges;

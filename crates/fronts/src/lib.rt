@@ -1,4 +1,6 @@
 // What is found of a window's keys, in columns by value, and the window's rounds from these.
+#![tactic(auto)]
+
 ghost use Rattle.std.specs.Prelude.{length, take};
 ghost use Rattle.backends.specs.Segments.{segments};
 ghost use Rattle.moments.specs.Present.{edits};

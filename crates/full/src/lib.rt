@@ -1,4 +1,6 @@
 // The answer of a call that works, whatever its runs.
+#![tactic(auto)]
+
 ghost use Rattle.grid.specs.Records.{most_records};
 ghost use Rattle.turns.specs.Runs.{runs};
 ghost use Rattle.concluding.specs.Answered.{Answering, Answered};

@@ -1,5 +1,7 @@
 // "Retire": a key's edits in a replay: loaded by time, and gathered up to a moment into what is held, which is collapsed by the meet of the moments that
 // are left.
+#![tactic(auto)]
+
 mod gathering;
 mod loads;
 mod meets;

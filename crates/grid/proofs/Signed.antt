@@ -22,7 +22,7 @@ use Rattle.grid.proofs.Tests.{by-test, clash}
 use Rattle.grid.proofs.Loops.{drop_more}
 
 pub back : {z : ℤ} → mag z < 2 ^ 63 → to_z w64 (of_z w64 z) ≡ z
-back h = to_z-of_z (record { sfits = h })
+back h = to_z-of_z {w = w64} (record { sfits = h })
 
 pub drop_more_diff : (src : List ℤ) (i : ℕ) → i < length src → mag (get_or src i (pos 0)) < 2 ^ 63 → drop i src ≡ to_z w64 (of_z w64 (get_or src i (pos 0))) ∷ drop (i + 1) src
 drop_more_diff src i h m = drop_more src i (pos 0) h ∙ ap (λ z. z ∷ drop (i + 1) src) (sym (back m))

@@ -1,1 +1,2 @@
 // Times, frontiers, lists and consolidation: definitions (specs/) and no functions.
+#![tactic(auto)]

@@ -1,5 +1,7 @@
 // TimeHistory: times replayed in ascending order. A history and its buffer share one lent column: the buffer is the first `count` entries,
 // and what is ahead are the entries from `at` on.
+#![tactic(auto)]
+
 mod columns;
 mod time_history;
 

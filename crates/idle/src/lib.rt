@@ -1,4 +1,6 @@
 // A call that does no work: it is refused, or quiet, or nothing changed.
+#![tactic(auto)]
+
 ghost use Rattle.std.specs.Prelude.{◌≤◌};
 ghost use Rattle.demands.specs.Lending.{memory};
 ghost use Rattle.idle.specs.Idled.{Idles, SaidIdle, Idled};

@@ -1,4 +1,6 @@
 // "Input (old and new)": the records of both runs together, in order. Each run ascends already; here they are sorted by halves.
+#![tactic(auto)]
+
 ghost use Rattle.std.specs.Prelude.{◌+◌, ◌≤◌, [], ◌++◌, map, ◌≡◌, length, take};
 ghost use Rattle.slices.specs.Places.{entry, diff_entry};
 ghost use Rattle.arranging.specs.Arranged.{sorted_places};

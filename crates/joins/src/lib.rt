@@ -1,4 +1,6 @@
 // What a step of discover_times reads of all that remains, and the joins that it makes.
+#![tactic(auto)]
+
 mod made;
 mod remaining;
 

@@ -1,4 +1,6 @@
 // The keys of a call: which have changed, and a key's part of a lent run.
+#![tactic(auto)]
+
 mod changes;
 mod parts;
 

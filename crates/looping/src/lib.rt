@@ -1,4 +1,6 @@
 // The loop over the windows of a call: where it stands, and what it comes to.
+#![tactic(auto)]
+
 ghost use Rattle.std.specs.Prelude.{◌+◌, ◌≤◌, min, ◌≡◌};
 ghost use Rattle.looping.specs.Looped.{course_of};
 

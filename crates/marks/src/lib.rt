@@ -1,4 +1,6 @@
 // "Crossings counts the rounds in which at least one key crossed": a mark for each round of a window.
+#![tactic(auto)]
+
 ghost use Rattle.std.specs.Prelude.{◌<◌, ◌≤◌, ◌^◌, ◌≡◌, length, set};
 ghost use Rattle.marks.specs.Marks.{marked_at, count_of, span_from, Steps};
 

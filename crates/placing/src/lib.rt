@@ -1,4 +1,6 @@
 // Result memory at published places: a column, the tiles, the pending list and the next frontier written to it; and memory cleared.
+#![tactic(auto)]
+
 mod clear;
 mod columns;
 mod lists;

@@ -1,4 +1,6 @@
 // "Retire": the rounds of a window's keys by plain sums, key by key.
+#![tactic(auto)]
+
 mod back;
 mod key;
 mod round;

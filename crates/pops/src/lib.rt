@@ -1,4 +1,6 @@
 // The walk of discover_times: where it stands, and how all five are stepped past n.
+#![tactic(auto)]
+
 mod stepping;
 
 use histories::Place;

@@ -1,5 +1,7 @@
 // Writing what lines are made of into a slice of bytes, from a place on. Each function answers the place after what it wrote. It takes any
 // place: past the end nothing is written, and the place after it then lies past the end, too.
+#![tactic(auto)]
+
 ghost use Rattle.std.specs.Prelude.{◌+◌, ◌<◌, true, false, [], ◌∷◌, ◌≡◌, nat_abs, drop};
 ghost use Rattle.std.specs.Int.Signed.{non_neg};
 ghost use Rattle.form.specs.Read.{the_row};

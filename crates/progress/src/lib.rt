@@ -1,4 +1,6 @@
 // How far a call has come.
+#![tactic(auto)]
+
 ghost use Rattle.std.specs.Prelude.{◌&&◌, ◌||◌, not, ◌≡◌, ltb};
 
 // Where the searches in its runs stand, how many pended times and corrections there are, in how many rounds keys have

@@ -1,4 +1,6 @@
 // Reading a whole request into lent columns.
+#![tactic(auto)]
+
 ghost use Rattle.std.specs.Prelude.{◌≤◌, ◌<◌, ◌≡◌, drop, length};
 ghost use Rattle.grid.specs.Frontiers.{most_times};
 ghost use Rattle.rules.specs.Call.{Request as AnyRequest};

@@ -1,4 +1,6 @@
 // Reading the lines of records: one line; where the lines of each kind stand; and the lines of a kind into lent columns.
+#![tactic(auto)]
+
 ghost use Rattle.std.specs.Prelude.{◌≤◌, ◌≡◌, drop, length};
 ghost use Rattle.form.specs.Read.{row, pair, line, many, sections};
 ghost use Rattle.records.specs.Told.{told_row, told_pair, Counted, SectionsStand, RowsRead, PairsRead, RowsStored, PairsStored};

@@ -1,5 +1,7 @@
 // "Retire": the rounds of a key by a collapsed replay, as the tactic does it: what is held of a key are its edits up to the moment at hand, joined with
 // the meet of the moments that are left and consolidated, and the others are ahead in order of time.
+#![tactic(auto)]
+
 mod all;
 mod turn;
 

@@ -1,4 +1,6 @@
 // "Retire": the rounds of a window's keys by a collapsed replay, key by key: each is loaded, and then all is ahead.
+#![tactic(auto)]
+
 mod key;
 mod window;
 

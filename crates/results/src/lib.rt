@@ -1,4 +1,6 @@
 // The results of a call, written to result memory at published places; and memory cleared.
+#![tactic(auto)]
+
 mod fixes;
 mod others;
 mod worked;

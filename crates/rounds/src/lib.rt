@@ -1,4 +1,6 @@
 // "Retire": edits appended to a key's output, and a round's correction merged into it.
+#![tactic(auto)]
+
 mod lays;
 mod merges;
 

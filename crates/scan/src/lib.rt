@@ -1,4 +1,6 @@
 // Reading what lines are made of, at a place of a slice of bytes: words, numbers, times and diffs. Nothing is written.
+#![tactic(auto)]
+
 ghost use Rattle.std.specs.Prelude.{◌≤◌, ◌<◌, ◌-◌, ◌^◌, [], ◌∷◌, ◌≡◌, negsuc, pos, get_or, drop};
 ghost use Rattle.grid.specs.Lists.{front};
 ghost use Rattle.form.specs.Read.{word, digit, plain, up_to, number, ending, time, signed};

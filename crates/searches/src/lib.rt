@@ -1,4 +1,6 @@
 // The parts of a window's keys in the runs of a call.
+#![tactic(auto)]
+
 ghost use Rattle.std.specs.Prelude.{length};
 ghost use Rattle.searches.specs.Searched.{Searched, SearchRoom};
 

@@ -1,4 +1,6 @@
 // Clearing, copying and gathering lent columns: numbers, and diffs.
+#![tactic(auto)]
+
 ghost use Rattle.std.specs.Prelude.{◌≡◌, ◌-◌, ◌≤◌, ◌++◌, map, length, take, drop, replicate, pos};
 ghost use Rattle.slices.specs.Places.{entry, diff_entry, up_to};
 

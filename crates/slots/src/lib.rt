@@ -1,1 +1,2 @@
 // The rounds of a window, key by key.
+#![tactic(auto)]

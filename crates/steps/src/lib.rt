@@ -1,4 +1,6 @@
 // One step of discover_times, per key.
+#![tactic(auto)]
+
 mod acts;
 mod whole;
 

@@ -1,4 +1,6 @@
 // What is counted of a window's keys, one after the other, and the next pending list, to which their pended times are appended.
+#![tactic(auto)]
+
 mod count;
 mod next;
 

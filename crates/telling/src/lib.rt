@@ -1,4 +1,6 @@
 // What a call says, as it is printed and as it is exported.
+#![tactic(auto)]
+
 ghost use Rattle.std.specs.Prelude.{◌++◌, ◌≡◌, ◌≤◌, length, drop};
 ghost use Rattle.telling.specs.Said.{results_of, counted};
 

@@ -1,4 +1,6 @@
 // "tile_descriptions": the interval from lower to upper, cut along the held times; and the tile of a correction.
+#![tactic(auto)]
+
 mod cut;
 mod describe;
 mod place;

@@ -1,4 +1,6 @@
 // "Times and frontiers": each function equals its definition in grid's specs.
+#![tactic(auto)]
+
 mod frontier;
 mod insert;
 mod minimal;

@@ -1,4 +1,6 @@
 // Answers the requests NAME.req whose names are the arguments, and holds each answer to NAME.ans, whole.
+#![tactic(auto)]
+
 ghost use Rattle.std.specs.Prelude.{◌≤◌};
 ghost use Rattle.io.specs.Counts.{IsPrefixLen};
 

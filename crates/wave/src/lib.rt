@@ -1,4 +1,6 @@
 // bilinear_wave: two histories replayed together, each step's edit paired with the other's buffer.
+#![tactic(auto)]
+
 mod call;
 mod checks;
 mod loads;

@@ -1,4 +1,6 @@
 // A call that works.
+#![tactic(auto)]
+
 mod either;
 
 ghost use Rattle.std.specs.Prelude.{◌+◌, length};

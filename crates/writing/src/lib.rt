@@ -1,4 +1,6 @@
 // Writing an answer from the result memory into a slice of bytes.
+#![tactic(auto)]
+
 ghost use Rattle.std.specs.Prelude.{◌+◌, ◌≤◌, min, true, [], ◌∷◌, ◌++◌, map, ◌≡◌, length};
 ghost use Rattle.grid.specs.Lists.{flat};
 ghost use Rattle.grid.specs.Records.{most_records};

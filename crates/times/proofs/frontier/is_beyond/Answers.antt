@@ -1,0 +1,17 @@
+use mathlib.Core.Path.{sym, ◌∙◌}
+use Prim.Native.Nat.{◌-◌}
+use Rattle.grid.proofs.Loops.{any_hit, any_miss, any_end}
+use Rattle.grid.specs.Frontiers.{beyond}
+use Rattle.grid.specs.Times.{below}
+use Rattle.times.proofs.frontier.is_beyond.Goals as goal
+
+pub returns-then-below : goal.returns-then-below
+unfolding beyond
+returns-then-below c = any_hit _ _ _ 0 c.loop-i-test.true c.loop-i.invariant (sym c.below.ensures ∙ c.if-below.true)
+
+pub loop-i-preserved : goal.loop-i-preserved
+loop-i-preserved c = any_miss _ _ _ 0 c.loop-i-test.true c.loop-i.invariant (sym c.below.ensures ∙ c.if-below.false)
+
+pub returns : goal.returns
+unfolding beyond
+returns c = any_end _ _ _ c.loop-i-test.false c.loop-i.invariant

@@ -1,0 +1,12 @@
+use Prim.Native.Nat.{◌-◌}
+use Rattle.grid.proofs.Slices.{moving_start, moving_more, moving_end}
+use Rattle.times.proofs.insert.put_at.Goals as goal
+
+pub loop-i-init : goal.loop-i-init
+loop-i-init c = moving_start _ _ _ _ c.requires.0 c.requires.1
+
+pub loop-i-preserved : goal.loop-i-preserved
+loop-i-preserved c = moving_more c.loop-i.invariant 0 c.loop-i-test.true
+
+pub returns : goal.returns
+returns c = moving_end c.loop-i.invariant c.loop-i-test.false

@@ -1,0 +1,6 @@
+use Rattle.grid.specs.Times.{join}
+use Rattle.times.proofs.time.PackedTime.join.Goals as goal
+
+pub returns : goal.returns
+unfolding join
+returns c = cc
