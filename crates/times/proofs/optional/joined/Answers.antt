@@ -6,8 +6,8 @@ use Rattle.times.proofs.optional.joined.Goals as goal
 
 pub returns-in-Present : goal.returns-in-Present
 unfolding joined
-returns-in-Present c = c.join.ensures ∙ sym (ap (λ (m : Meet). joined (optional m) c.args.t.0) c.m-1.given.1)
+returns-in-Present c = c.join.ensures ∙ sym (ap (λ (m : Meet). joined (optional m) c.args.t.0) c.in-Present.is)
 
 pub returns : goal.returns
 unfolding joined
-returns c = sym (ap (λ (m : Meet). joined (optional m) c.args.t.0) c.enum_told-1.given.1)
+returns c = sym (ap (λ (m : Meet). joined (optional m) c.args.t.0) c.in_default.is)
