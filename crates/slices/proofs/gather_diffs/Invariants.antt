@@ -1,0 +1,12 @@
+use Prim.Native.Nat.{◌-◌}
+use mathlib.Core.List.{◌++◌, map}
+use mathlib.Core.Path.{◌≡◌}
+use lib.ListN.{length, take, drop}
+use Rattle.slices.specs.Places.{diff_entry}
+use Rattle.slices.proofs.gather_diffs.Given as goal
+
+abbrev pub invariant-loop-i : goal.invariant-loop-i
+invariant-loop-i l = (take l.i l.dst ++ map (diff_entry l.src) (drop l.i l.places) ≡ map (diff_entry l.src) l.places) × (length l.dst ≡ length l.places)
+
+abbrev pub decreases-loop-i : goal.decreases-loop-i
+decreases-loop-i l = length l.places - l.i
