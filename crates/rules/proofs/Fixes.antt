@@ -5,7 +5,7 @@
 -- Placed, fixes-placed: what holds of every correction
 use Prim.Native.Nat.{ℕ}
 use mathlib.Core.Bool.{true, false, not}
-use mathlib.Core.List.{List, [], ◌∷◌, map}
+use mathlib.Core.List.{List, [], ◌∷◌, map, ◌++◌}
 use mathlib.Core.Path.{◌≡◌, refl, ap}
 use lib.Dec.{ltb}
 use lib.IntN.{ℤ}
@@ -14,7 +14,7 @@ use Rattle.grid.specs.Frontiers.{beyond}
 use Rattle.grid.proofs.Lists.{All, all_of, all_imp, all_both, all_flat, all_map, map_all, all_sort}
 use Rattle.rules.specs.Histories.{Edit}
 use Rattle.rules.specs.Tiles.{Tile, tiles, tile_of}
-use Rattle.rules.specs.Retire.{Round, round_at, settle}
+use Rattle.rules.specs.Retire.{Round, round_at, settle, dated}
 use Rattle.rules.specs.Call.{Request, Fix, check15, together, times_of, pending_of, changed, work, work_all, fixes_of, fix_before, fixes_all}
 use Rattle.rules.specs.Right.{touched}
 use Rattle.rules.proofs.Moments.{moments_above, found_listed}
@@ -25,7 +25,7 @@ use Rattle.rules.proofs.Work.{pending_ascends}
 pub settle-times : (mode : ℕ) (input output : List Edit) (ts : List ℕ) → map (λ (r : Round). r.time) (settle mode input output ts) ≡ ts
 unfolding settle round_at
 settle-times mode input output [] = refl
-settle-times mode input output (t ∷ ts) = ap (λ l. t ∷ l) (settle-times mode input _ ts)
+settle-times mode input output (t ∷ ts) = ap (λ l. t ∷ l) (settle-times mode input (output ++ dated t (round_at mode input output t).fixes) ts)
 
 module _ (q : Request) where
   -- a time of the key k at which corrections are made

@@ -11,7 +11,7 @@ use Prim.Native.Nat.{ℕ, ◌<◌}
 use mathlib.Core.Bool.{Bool, true, false, cond, ◌||◌, not}
 use mathlib.Core.List.{List, [], ◌∷◌, ◌++◌, map}
 use mathlib.Core.Logic.{◌↔◌}
-use mathlib.Core.Path.{◌≡◌, refl, sym, ◌∙◌}
+use mathlib.Core.Path.{◌≡◌, refl, sym, ◌∙◌, subst}
 use native.Mathlib.Omega.{arith}
 use lib.Dec.{eqb}
 use lib.ListN.{take, drop}
@@ -66,8 +66,12 @@ or_wider false b c e = or_r b c e
 first_one_of : (ps : List (ℕ × Bool)) → any (eqb (first_failed ps)) (0 ∷ map (λ p. p.0) ps) ≡ true
 first_one_of [] = refl
 first_one_of (p ∷ ps) =
-    by-test p.1 (λ t. rw t (or_wider (eqb (first_failed ps) 0) (eqb (first_failed ps) p.0) _ (first_one_of ps)))
-    (λ t. rw t (or_r (eqb p.0 0) _ (or_l (eqb p.0 p.0) _ (eq-eqb p.0 p.0 refl))))
+    let One : ℕ → Type 0 = λ n. any (eqb n) (0 ∷ p.0 ∷ map (λ q. q.0) ps) ≡ true in
+    by-test p.1
+    (λ t. let e : first_failed ps ≡ first_failed (p ∷ ps) = rw t refl in
+    subst One e (or_wider (eqb (first_failed ps) 0) (eqb (first_failed ps) p.0) _ (first_one_of ps)))
+    (λ t. let e : p.0 ≡ first_failed (p ∷ ps) = rw t refl in
+    subst One e (or_r (eqb p.0 0) _ (or_l (eqb p.0 p.0) _ (eq-eqb p.0 p.0 refl))))
 
 first-append : (ps qs : List (ℕ × Bool)) → without 0 ps ≡ true → first_failed (ps ++ qs) ≡ cond (eqb (first_failed ps) 0) (first_failed qs) (first_failed ps)
 first-append [] qs w = refl

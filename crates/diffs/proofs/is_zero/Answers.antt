@@ -1,6 +1,4 @@
 use Rattle.grid.proofs.Signed.{zero_test}
-use Rattle.diffs.proofs.is_zero.Reads as reads
-use Rattle.diffs.proofs.is_zero.Lts as lts
 use Rattle.diffs.proofs.is_zero.Goals as goal
 
 -- src/diffs.rt:26:1

@@ -2,17 +2,19 @@ use lib.IntN.{pos}
 use mir.Syntax.{w64}
 use mir.Val.{to_z}
 use Rattle.diffs.proofs.Adding.{adding_start, adding_more, adding_end, next_fits, adding_small}
-use Rattle.diffs.proofs.Signed.{added}
+use Rattle.diffs.proofs.Signed.{added, added_fits}
 use native.Mathlib.Omega.{arith}
 use lib.ListN.{get_or}
 use Prim.Native.Nat.{◌-◌}
-use Rattle.diffs.proofs.total.Reads as reads
-use Rattle.diffs.proofs.total.Lts as lts
 use Rattle.diffs.proofs.total.Goals as goal
 
 -- src/diffs.rt:56:5
 pub loop-i-init : goal.loop-i-init
 loop-i-init c = (adding_start _, omega arith)
+
+-- src/diffs.rt:58:13
+pub overflow_add-t : goal.overflow_add-t
+overflow_add-t c = added_fits (to_z w64 c.loop-i.t-bits) _ c.x-1.given (next_fits c.loop-i.invariant.0 c.requires.1 c.loop-i-test.true c.requires.0)
 
 -- src/diffs.rt:56:5
 pub loop-i-preserved : goal.loop-i-preserved

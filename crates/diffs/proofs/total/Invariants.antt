@@ -1,14 +1,10 @@
-use mir.Syntax.{w64}
-use mir.Val.{to_z}
 use Rattle.diffs.proofs.Adding.{Adding}
 use lib.ListN.{length}
 use Prim.Native.Nat.{◌-◌, ◌≤◌}
-use Rattle.diffs.proofs.total.Reads as reads
-use Rattle.diffs.proofs.total.Lts as lts
 use Rattle.diffs.proofs.total.Given as goal
 
 abbrev pub invariant-loop-i : goal.invariant-loop-i
-invariant-loop-i l = Adding l.d (to_z w64 l.t) l.i × (l.i ≤ length l.d)
+invariant-loop-i l = Adding l.d l.t l.i × (l.i ≤ length l.d)
 
 abbrev pub decreases-loop-i : goal.decreases-loop-i
 decreases-loop-i l = length l.d - l.i

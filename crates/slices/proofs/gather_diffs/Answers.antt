@@ -8,7 +8,7 @@ use Rattle.grid.proofs.Signed.{back}
 use Rattle.slices.proofs.gather_diffs.Goals as goal
 
 pub loop-i-preserved : goal.loop-i-preserved
-loop-i-preserved c = (put_more c.loop-i.dst c.loop-i.i _ (omega arith) c.loop-i.invariant.0 (gather_more _ c.args.places.now c.loop-i.i 0 (omega arith) (back c.diff_at.type-inv ∙ c.diff_at.ensures)), simp length-set c.loop-i.invariant.1)
+loop-i-preserved c = (put_more c.loop-i.dst c.loop-i.i _ (omega arith) c.loop-i.invariant.0 (gather_more _ c.args.places.now c.loop-i.i 0 (omega arith) (back c.diff_at.type_inv ∙ c.diff_at.ensures)), simp length-set c.loop-i.invariant.1)
 
 pub returns : goal.returns
 returns c = put_end c.loop-i.dst c.loop-i.i (omega arith) c.loop-i.invariant.0 (gather_none _ c.args.places.now c.loop-i.i (omega arith))
