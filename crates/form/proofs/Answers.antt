@@ -99,7 +99,8 @@ module _ (mode : ℕ) (input : List Edit) (m : mass nat_abs input < 2 ^ 63) (a :
   settle_wide : {output : List Edit} (ts : List ℕ) → All WideValue output → All (λ (r : Round). All WideSum r.fixes) (settle mode input output ts)
   unfolding settle
   settle_wide [] b = nil
-  settle_wide (t ∷ ts) b = cons (round_wide t b) (settle_wide ts (all_append b (dated_wide t (round_wide t b))))
+  settle_wide {output = output} (t ∷ ts) b =
+      cons (round_wide t b) (settle_wide {output = output ++ dated t (round_at mode input output t).fixes} ts (all_append b (dated_wide t (round_wide t b))))
 
 -- ---- one key's work
 module _ (k : ℕ) where
@@ -220,7 +221,7 @@ unfolding tiles
 tiles_wide a b nil = nil
 tiles_wide {lower} {upper} a b (cons {x = h} {xs = later} c d) =
     let cut : All Wide (all_inserted later upper) = all_inserted_all upper b d in
-    let rest : All WideTile (tiles (all_inserted later upper) upper later) = tiles_wide cut b d in
+    let rest : All WideTile (tiles (all_inserted later upper) upper later) = tiles_wide {lower = all_inserted later upper} cut b d in
     by-test (same (all_inserted later upper) lower) (λ e. rw e rest) (λ e. rw e (cons (record { lower_wide = a; upper_wide = cut; held_wide = c }) rest))
 
 tile_fits : (t : Tile) → WideTile t → Bounded most_bound t → TileFits t

@@ -1,0 +1,12 @@
+use Rattle.slices.proofs.Writes.{gather_more, gather_none}
+use Rattle.grid.proofs.Loops.{put_more, put_end}
+use lib.ListN.{length-set}
+use Prim.Native.Nat.{◌-◌}
+use native.Mathlib.Omega.{arith}
+use Rattle.placing.proofs.place.place_times.Goals as goal
+
+pub loop-i-preserved : goal.loop-i-preserved
+loop-i-preserved c = (put_more c.loop-i.out c.loop-i.i _ (omega arith) c.loop-i.invariant.0 (gather_more _ c.args.times.now c.loop-i.i 0 (omega arith) c.tile_of.ensures), simp length-set c.loop-i.invariant.1)
+
+pub returns : goal.returns
+returns c = put_end c.loop-i.out c.loop-i.i (omega arith) c.loop-i.invariant.0 (gather_none _ c.args.times.now c.loop-i.i (omega arith))
