@@ -1,0 +1,10 @@
+use Rattle.records.proofs.Records.{Reading}
+use Rattle.form.specs.Read.{line, pair}
+use Prim.Native.Nat.{◌-◌}
+use Rattle.records.proofs.count_pairs.Given as goal
+
+abbrev pub invariant-loop-n : goal.invariant-loop-n
+invariant-loop-n l = Reading (line l.name pair) 512 l.s l.from l.at l.n
+
+abbrev pub decreases-loop-n : goal.decreases-loop-n
+decreases-loop-n l = 512 - l.n
