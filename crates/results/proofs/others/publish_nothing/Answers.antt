@@ -1,0 +1,5 @@
+use Rattle.results.proofs.Told.{nothing_told}
+use Rattle.results.proofs.others.publish_nothing.Goals as goal
+
+pub returns : goal.returns
+returns c = nothing_told c.requires c.clear_results.ensures
