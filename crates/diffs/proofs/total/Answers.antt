@@ -18,9 +18,9 @@ overflow_add-t c = added_fits (to_z w64 c.loop-i.t-bits) _ c.x-1.given (next_fit
 
 -- src/diffs.rt:56:5
 pub loop-i-preserved : goal.loop-i-preserved
-loop-i-preserved c = let inv = c.loop-i.invariant.0 in 
-    let pre = c.requires in 
-    let h = c.loop-i-test.true in 
+loop-i-preserved c = let inv = c.loop-i.invariant.0 in
+    let pre = c.requires in
+    let h = c.loop-i-test.true in
     (adding_more inv pre.1 h _ (added (to_z w64 c.loop-i.t-bits) (get_or c.args.d.now c.loop-i.i (pos 0)) c.x-1.given (next_fits inv pre.1 h pre.0)), omega arith)
 
 -- src/diffs.rt:50:1

@@ -8,13 +8,13 @@ pub loop-low-init : goal.loop-low-init
 loop-low-init c = (omega arith, (place_within c.args.s.now c.args.count c.args.t c.requires.0, omega arith))
 
 pub loop-low-preserved-then-s-middle : goal.loop-low-preserved-then-s-middle
-loop-low-preserved-then-s-middle c = let low = c.loop-low.low in 
-    let high = c.loop-low.high in 
+loop-low-preserved-then-s-middle c = let low = c.loop-low.low in
+    let high = c.loop-low.high in
     (middle_below c.args.s.now c.args.count c.args.t (low + (high - low) / 2) c.requires.0 (omega arith) c.requires.1 c.if-s-middle.true, (c.loop-low.invariant.1.0, c.loop-low.invariant.1.1))
 
 pub loop-low-preserved : goal.loop-low-preserved
-loop-low-preserved c = let low = c.loop-low.low in 
-    let high = c.loop-low.high in 
+loop-low-preserved c = let low = c.loop-low.low in
+    let high = c.loop-low.high in
     (c.loop-low.invariant.0, (middle_above c.args.s.now c.args.count c.args.t (low + (high - low) / 2) c.requires.0 (omega arith) c.if-s-middle.false, omega arith))
 
 pub returns : goal.returns
