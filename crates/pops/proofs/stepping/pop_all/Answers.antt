@@ -20,15 +20,15 @@ shape_of-seeds c = c.step_seeds-s.auto.seeds
 
 -- src/stepping.rt:116:1
 pub shape_of-times : goal.shape_of-times
-shape_of-times c = c.step_while_time_is-i.kept.0
+shape_of-times c = c.step_while_time_is-i.auto.times
 
 -- src/stepping.rt:116:1
 pub shape_of-values : goal.shape_of-values
-shape_of-values c = c.step_while_time_is-i.kept.1.0
+shape_of-values c = c.step_while_time_is-i.auto.values
 
 -- src/stepping.rt:116:1
 pub shape_of-diffs : goal.shape_of-diffs
-shape_of-diffs c = c.step_while_time_is-i.kept.1.1.0
+shape_of-diffs c = c.step_while_time_is-i.auto.diffs
 
 -- src/stepping.rt:116:1
 pub shape_of-output : goal.shape_of-output
@@ -40,4 +40,4 @@ shape_of-work c = c.step_seeds-s.auto.work
 
 -- src/stepping.rt:116:1
 pub returns : goal.returns
-returns c = all_popped _ _ _ c.requires.standing c.step_while_time_is-i.kept.0 c.step_while_time_is-i.kept.1.0 c.step_while_time_is-i.kept.1.1.0 c.step_while_time_is-o.auto.times c.step_while_time_is-i.ensures c.step_while_time_is-o.ensures c.step_seeds-s.ensures c.track_pending-t.ensures c.track_waiting-w.ensures c.any_moved-hit.ensures
+returns c = all_popped _ _ _ c.requires.standing c.step_while_time_is-i.auto.times c.step_while_time_is-i.auto.values c.step_while_time_is-i.auto.diffs c.step_while_time_is-o.auto.times c.step_while_time_is-i.ensures c.step_while_time_is-o.ensures c.step_seeds-s.ensures c.track_pending-t.ensures c.track_waiting-w.ensures c.any_moved-hit.ensures
