@@ -47,12 +47,12 @@ spans_inside : {run : List ℕ} {start : ℕ} (ks : List ℕ) → ascending ltb 
 unfolding spans_from
 spans_inside [] a r = nil
 spans_inside {run} {start} (k ∷ ks) a r =
-    cons (spans_within (head r) (spans_at run start k)) (spans_inside ks (ascending_rest ltb k ks a) (reaches_rest a r))
+    cons (spans_within (head r) (spans_at run start k)) (spans_inside {start = (span_at run start k).to} ks (ascending_rest ltb k ks a) (reaches_rest a r))
 
 pub reaches_past : {run : List ℕ} {start : ℕ} (ks later : List ℕ) → ascending ltb (ks ++ later) ≡ true → All (Reaches run start) (ks ++ later) → All (Reaches run (end_from run start ks)) later
 unfolding end_from
 reaches_past [] later a r = r
-reaches_past {run} {start} (k ∷ ks) later a r = reaches_past ks later (ascending_rest ltb k (ks ++ later) a) (reaches_rest a r)
+reaches_past {run} {start} (k ∷ ks) later a r = reaches_past {start = (span_at run start k).to} ks later (ascending_rest ltb k (ks ++ later) a) (reaches_rest a r)
 
 length_spans : (run : List ℕ) (start : ℕ) (ks : List ℕ) → length (spans_from run start ks) ≡ length ks
 unfolding spans_from
@@ -103,7 +103,7 @@ module _ (upper nk nt pk pt : List ℕ) {ik iv it : List ℕ} {id : List ℤ} (o
   found_keys [] a rn rp ri ro = refl
   found_keys {sn} {sp} {si} {so} (k ∷ ks) a rn rp ri ro =
       let e = found_key k (head rn) (spans_at nk sn k) (head rp) (spans_at pk sp k) (head ri) (spans_at ik si k) (head ro) (spans_at ok so k) in
-      let ih = found_keys ks (ascending_rest ltb k ks a) (reaches_rest a rn) (reaches_rest a rp) (reaches_rest a ri) (reaches_rest a ro) in
+      let ih = found_keys {sn = (span_at nk sn k).to} {sp = (span_at pk sp k).to} {si = (span_at ik si k).to} {so = (span_at ok so k).to} ks (ascending_rest ltb k ks a) (reaches_rest a rn) (reaches_rest a rp) (reaches_rest a ri) (reaches_rest a ro) in
       λ z. e z ∷ ih z
 
   -- from the columns that the searches wrote
