@@ -94,9 +94,9 @@ module _ {ks vs ts : List ℕ} {ds : List ℤ} (l : Level ks vs ts ds) where
       → parts_of (froms_of (spans_from ks start keys)) (tos_of (spans_from ks start keys)) (edits vs ts ds) ≡ map (λ k. edits_of k (rows ks vs ts ds)) keys
   unfolding spans_from parts_of
   parts_from [] a r = refl
-  parts_from (k ∷ keys) a r =
+  parts_from {start} (k ∷ keys) a r =
       let e = key_edits (head r) in
-      let ih = parts_from keys (ascending_rest ltb k keys a) (reaches_rest a r) in
+      let ih = parts_from {start = (span_at ks start k).to} keys (ascending_rest ltb k keys a) (reaches_rest a r) in
       λ i. e i ∷ ih i
 
   pub parts_are : {start : ℕ} (fs es keys : List ℕ) → ascending ltb keys ≡ true → All (Reaches ks start) keys → spans_in fs es ≡ spans_from ks start keys → length fs ≡ length es
@@ -123,7 +123,7 @@ module _ {ks vs ts : List ℕ} {ds : List ℤ} (l : Level ks vs ts ds) where
         let s : Span = span_at ks start k in
         let w = spans_within (head r) (spans_at ks start k) in
         next {k = start} {f = s.from} (omega (arith, (spans_at ks start k).from_is)) w.ordered (rw run_long w.inside) (subst (Orderly (length ks)) (sym (key_edits (head r))) (key_orderly k))
-        (apart_from keys (ascending_rest ltb k keys a) (reaches_rest a r))
+        (apart_from {start = (span_at ks start k).to} keys (ascending_rest ltb k keys a) (reaches_rest a r))
 
     pub parts_apart : {n start : ℕ} {fs es : List ℕ} {keys : List ℕ} → length ks ≤ n → ascending ltb keys ≡ true → All (Reaches ks start) keys → spans_in fs es ≡ spans_from ks start keys → length fs ≡ length es
         → Apart (Orderly n) (edits vs ts ds) 0 fs es
