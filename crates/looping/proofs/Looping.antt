@@ -293,7 +293,7 @@ module _ {most : ℕ} {R : Runs} {mode width : ℕ} {keys nk nt fk fv ft : List 
         within = omega (arith, before);
         reached = record {
           ascends = ascending_later window later ascends_both;
-          new = rw T.New-is (reaches_past window later ascends_both (reaches_both L.reached.new));
+          new = rw T.new_is (reaches_past window later ascends_both (reaches_both L.reached.new));
           pending = rw T.pending_is (reaches_past window later ascends_both (reaches_both L.reached.pending));
           input = rw T.input_is (reaches_past window later ascends_both (reaches_both L.reached.input));
           out = rw T.out_is (reaches_past window later ascends_both (reaches_both L.reached.out));
