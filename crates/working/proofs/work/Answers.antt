@@ -27,23 +27,11 @@ shape_of-res c = c.res-2-1.given ∙ c.res-1.given
 pub shape_of-moments : goal.shape_of-moments
 shape_of-moments c = c.moments-3-1.given ∙ c.moments-2-1.given ∙ c.moments-1.given
 
-pub shape_of-tk : goal.shape_of-tk
-shape_of-tk c = c.?tk3.given ∙ c.tk-1.given
-
-pub shape_of-tv : goal.shape_of-tv
-shape_of-tv c = c.?tv3.given ∙ c.tv-1.given
-
-pub shape_of-tt : goal.shape_of-tt
-shape_of-tt c = c.?tt3.given ∙ c.tt-1.given
-
 pub shape_of-uv : goal.shape_of-uv
 shape_of-uv c = c.uv-2-1.given ∙ c.uv-1.given
 
 pub shape_of-ut : goal.shape_of-ut
 shape_of-ut c = c.ut-2-1.given ∙ c.ut-1.given
-
-pub shape_of-td : goal.shape_of-td
-shape_of-td c = c.?td3.given ∙ c.td-1.given
 
 pub shape_of-ud : goal.shape_of-ud
 shape_of-ud c = c.ud-2-1.given ∙ c.ud-1.given
