@@ -2,7 +2,7 @@
 --
 -- RowFits, TimesFit, Fits: the parts of a request are within their widths, and its lists and lines not too many
 -- request_back: the request that is printed is the one that is read
-use Prim.Native.Nat.{ℕ, zero, suc, ◌+◌, ◌-◌, ◌≤◌, ◌<◌, ◌^◌}
+use Prim.Native.Nat.{ℕ, zero, suc, ◌≤◌, ◌<◌, ◌^◌}
 use Prim.Native.String.{String}
 use native.Mathlib.Omega.{arith}
 use mathlib.Core.Bool.{true, false, false≢true}

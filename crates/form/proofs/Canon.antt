@@ -4,7 +4,7 @@
 -- Canonical p show P: whatever p reads is so
 -- Printed s q: s is the text of the request q, which fits
 -- request_canonical: the requests that are read are exactly the printed ones
-use Prim.Native.Nat.{ℕ, zero, suc, ◌+◌, ◌-◌, ◌≤◌, ◌<◌, ◌^◌}
+use Prim.Native.Nat.{ℕ, zero, suc, ◌≤◌, ◌<◌, ◌^◌}
 use Prim.Native.String.{String}
 use native.Mathlib.Omega.{arith}
 use mathlib.Core.Bool.{Bool, true, false, false≢true}

@@ -6,7 +6,7 @@
 -- all_in: each element is one of the list. all_flat: of lists one after the other
 -- keep_none, keep_each: what is kept where none passes, where each does. keep_length: what is kept is no longer
 use Prim.Native.Nat.{ℕ, ◌≤◌}
-use mathlib.Core.Bool.{Bool, true, false, not}
+use mathlib.Core.Bool.{Bool, true, false}
 use mathlib.Core.List.{List, [], ◌∷◌, ◌++◌, map}
 use mathlib.Core.Path.{◌≡◌, refl}
 use native.Mathlib.Omega.{arith}

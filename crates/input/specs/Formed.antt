@@ -5,7 +5,7 @@
 -- Joined: the records of two runs, one after the other. Ordered: n records, in order. Formed: the records of two runs together, in order
 use Rattle.std.specs.Prelude.{ℕ, ◌+◌, ◌≤◌, not, List, ◌++◌, ◌≡◌, ℤ, length, take}
 use Rattle.grid.specs.Lists.{sort}
-use Rattle.grid.specs.Records.{Columns, before, rows}
+use Rattle.grid.specs.Records.{Columns, before}
 use Rattle.rules.specs.Call.{together}
 use Rattle.rules.specs.Memory.{rows_of}
 use Rattle.arranging.specs.Arranged.{Long}

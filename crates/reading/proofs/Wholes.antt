@@ -2,7 +2,7 @@
 --
 -- head_bad, finish_bad, looked_good, looked_bad: how the reading ends
 -- few: no section has over 512 lines. front_read: zeros past the lists. request-read: the whole columns
-use Prim.Native.Nat.{ℕ, ◌+◌, ◌-◌, ◌≤◌, ◌<◌}
+use Prim.Native.Nat.{ℕ, ◌-◌, ◌≤◌, ◌<◌}
 use native.Mathlib.Omega.{arith}
 use mathlib.Core.Path.{◌≡◌, refl, sym, ◌∙◌, ap, subst}
 use mathlib.Core.List.{List, [], ◌++◌}

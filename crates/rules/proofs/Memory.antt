@@ -22,7 +22,7 @@ use Rattle.grid.proofs.Frontiers.{true_antichain, minimal-antichain}
 use Rattle.grid.proofs.Lists.{All, nil, cons}
 use Rattle.grid.specs.Frontiers.{most_times, antichain, is_frontier, minimal}
 use Rattle.grid.specs.Records.{most_records, in_range}
-use Rattle.rules.specs.Tiles.{Tile, tiles}
+use Rattle.rules.specs.Tiles.{Tile}
 use Rattle.rules.proofs.Tiles.{Bounded, frontier_length, tiles-length, tiles_bounds}
 use Rattle.rules.specs.Call.{Request, Answer, Fix, Done, check11, check12, work_all, pended_all, too_many, too_large, refused, quiet_answer, call}
 use Rattle.rules.specs.Memory.{Memory, Sizes, Lent, most_bound, tile_size, numbers_size, alike, long_enough, roomy, lent_well, request_of, call_lent, tile_numbers, numbers, diffs, leaves, after}

@@ -13,11 +13,11 @@ use mathlib.Core.List.{List, [], ◌∷◌, ◌++◌, map, map-map}
 use mathlib.Core.Path.{◌≡◌, refl, ◌∙◌, ap, ap₂}
 use native.Mathlib.Omega.{arith}
 use lib.Dec.{eqb}
-use lib.ListN.{length, take, drop, length-append, length-map, length-take, length-drop, take-append-drop}
+use lib.ListN.{length, take, drop, length-append, length-map, length-drop, take-append-drop}
 use borrow.Author.Tests.{eqb-true, eqb-false, le-leb}
 use Rattle.grid.specs.Lists.{keep, flat}
 use Rattle.grid.proofs.Tests.{by-test}
-use Rattle.grid.proofs.Lists.{All, nil, cons, keep_length}
+use Rattle.grid.proofs.Lists.{keep_length}
 use Rattle.grid.specs.Records.{Row}
 use Rattle.grid.proofs.Operations.{map-take, map-drop}
 use Rattle.rules.proofs.Statuses.{call-worked, call-quiet, call-refused}

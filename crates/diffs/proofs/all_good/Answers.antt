@@ -1,6 +1,5 @@
 use Rattle.diffs.proofs.Ranges.{diff_read}
 use borrow.Author.Tests.{not-true, not-false}
-use Prim.Native.Nat.{◌-◌}
 use lib.IntN.{pos}
 use mathlib.Core.Path.{sym, ◌∙◌}
 use Rattle.grid.specs.Records.{good_diff}

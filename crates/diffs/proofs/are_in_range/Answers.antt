@@ -1,4 +1,3 @@
-use Prim.Native.Nat.{◌-◌}
 use mathlib.Core.Path.{sym, ◌∙◌}
 use lib.IntN.{pos}
 use borrow.Author.Tests.{not-true, not-false}

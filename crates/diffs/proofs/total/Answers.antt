@@ -5,7 +5,6 @@ use Rattle.diffs.proofs.Adding.{adding_start, adding_more, adding_end, next_fits
 use Rattle.diffs.proofs.Signed.{added, added_fits}
 use native.Mathlib.Omega.{arith}
 use lib.ListN.{get_or}
-use Prim.Native.Nat.{◌-◌}
 use Rattle.diffs.proofs.total.Goals as goal
 
 -- src/diffs.rt:56:5

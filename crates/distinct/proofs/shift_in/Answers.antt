@@ -1,5 +1,4 @@
 use native.Mathlib.Omega.{arith}
-use Prim.Native.Nat.{◌-◌}
 use Rattle.distinct.proofs.Inserting.{shifting_start, shifting_more, shifting_end}
 use Rattle.distinct.proofs.shift_in.Goals as goal
 

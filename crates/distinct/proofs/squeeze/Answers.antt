@@ -1,5 +1,4 @@
 use native.Mathlib.Omega.{arith}
-use Prim.Native.Nat.{◌-◌}
 use mathlib.Core.Path.{sym, ◌∙◌}
 use Rattle.distinct.proofs.Removing.{squeezing_start, squeezing_keep, squeezing_skip, squeezing_end}
 use Rattle.distinct.proofs.squeeze.Goals as goal

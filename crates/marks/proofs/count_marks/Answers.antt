@@ -1,4 +1,3 @@
-use Prim.Native.Nat.{◌-◌}
 use Rattle.marks.proofs.Marking.{counted_start, counted_more, counted_other, counted_end}
 use Rattle.marks.proofs.count_marks.Goals as goal
 

@@ -1,4 +1,3 @@
-use Prim.Native.Nat.{◌-◌}
 use Rattle.marks.proofs.Spanning.{spanning_start, span-bound, span_more, span_other, spanning_end}
 use Rattle.marks.proofs.longest.Goals as goal
 

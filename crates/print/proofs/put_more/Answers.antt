@@ -1,4 +1,3 @@
-use Prim.Native.Nat.{◌-◌}
 use native.Mathlib.Omega.{arith}
 use Rattle.print.proofs.Put.{writing_start, writing_more, writing_long, writing_end, put-append, more_some, more_none}
 use Rattle.print.proofs.put_more.Goals as goal

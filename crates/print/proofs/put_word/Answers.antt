@@ -1,5 +1,4 @@
 use Rattle.print.proofs.Put.{writing_start, writing_more, writing_long, writing_end, word_some, word_none}
-use Prim.Native.Nat.{◌-◌}
 use native.Mathlib.Omega.{arith}
 use Rattle.print.proofs.put_word.Goals as goal
 

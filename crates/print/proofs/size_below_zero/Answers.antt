@@ -1,6 +1,5 @@
 use Rattle.print.proofs.Numbers.{taken_fits, taken_is, size_below, size_fits, more_fits}
 use native.Mathlib.Omega.{arith}
-use Prim.Native.Nat.{◌-◌}
 use Rattle.print.proofs.size_below_zero.Goals as goal
 
 -- src/lib.rt:13:7

@@ -1,6 +1,5 @@
 use Rattle.print.proofs.Numbers.{from_fits}
 use native.Mathlib.Omega.{arith}
-use Prim.Native.Nat.{◌-◌}
 use Rattle.print.proofs.size_from_zero.Goals as goal
 
 -- src/lib.rt:20:5

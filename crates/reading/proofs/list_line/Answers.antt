@@ -2,7 +2,6 @@ use Rattle.reading.proofs.Heads.{few_times, no_times, are_times}
 use Rattle.records.proofs.Records.{line_none, line_bad, line_open, line_all}
 use Rattle.scan.proofs.Fields.{no_place, is_place}
 use native.Mathlib.Omega.{arith}
-use Prim.Native.Nat.{◌-◌}
 use Rattle.reading.proofs.list_line.Goals as goal
 
 -- src/lib.rt:69:9

@@ -1,6 +1,5 @@
 use Rattle.reading.proofs.Heads.{end_bad, end_more, end_all}
 use Rattle.scan.proofs.Fields.{no_place, is_place}
-use Prim.Native.Nat.{◌-◌}
 use Rattle.reading.proofs.read_end.Goals as goal
 
 -- src/lib.rt:35:9

@@ -1,7 +1,6 @@
 use Rattle.reading.proofs.Heads.{few_times, no_times, are_times, head_1, head_2, head_3, head_4, head_5, head_all}
 use Rattle.scan.proofs.Fields.{no_num, is_num}
 use native.Mathlib.Omega.{arith}
-use Prim.Native.Nat.{◌-◌}
 use Rattle.reading.proofs.read_head.Goals as goal
 
 -- src/lib.rt:88:9

@@ -2,7 +2,6 @@ use Rattle.reading.proofs.Heads.{list_empty}
 use Rattle.form.proofs.Back.{list-times}
 use Rattle.scan.proofs.Fields.{no_place, is_place}
 use native.Mathlib.Omega.{arith}
-use Prim.Native.Nat.{◌-◌}
 use mathlib.Core.Path.{sym, ◌∙◌}
 use Rattle.reading.proofs.read_list.Goals as goal
 

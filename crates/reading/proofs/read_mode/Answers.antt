@@ -1,6 +1,5 @@
 use Rattle.reading.proofs.Heads.{mode-count, mode_none, mode-distinct}
 use Rattle.scan.proofs.Fields.{no_place, is_place}
-use Prim.Native.Nat.{◌-◌}
 use Rattle.reading.proofs.read_mode.Goals as goal
 
 -- src/lib.rt:26:9

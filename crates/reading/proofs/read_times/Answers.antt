@@ -1,7 +1,6 @@
 use Rattle.reading.proofs.Heads.{listing_start, listing_none, listing_last, listing_more, listing_full}
 use Rattle.scan.proofs.Fields.{no_place, is_place, no_time, is_time}
 use native.Mathlib.Omega.{arith}
-use Prim.Native.Nat.{◌-◌}
 use Rattle.reading.proofs.read_times.Goals as goal
 
 -- src/lib.rt:104:5

@@ -1,6 +1,5 @@
 use Rattle.records.proofs.Records.{line_none, line_bad, line_open, line_all}
 use Rattle.scan.proofs.Fields.{no_num, is_num, no_place, is_place}
-use Prim.Native.Nat.{◌-◌}
 use Rattle.reading.proofs.width_line.Goals as goal
 
 -- src/lib.rt:53:9

@@ -1,5 +1,4 @@
 use Rattle.records.proofs.Records.{no_pair, is_pair, reading-start, reading_more, counted_stop, counted_full}
-use Prim.Native.Nat.{◌-◌}
 use native.Mathlib.Omega.{arith}
 use Rattle.records.proofs.count_pairs.Goals as goal
 

@@ -1,6 +1,5 @@
 use Rattle.records.proofs.Records.{no_pair, is_pair, line_none, line_bad, line_open, line_all}
 use Rattle.scan.proofs.Fields.{no_place, is_place}
-use Prim.Native.Nat.{◌-◌}
 use Rattle.records.proofs.pair_line.Goals as goal
 
 -- src/lib.rt:81:9

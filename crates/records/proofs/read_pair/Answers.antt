@@ -1,6 +1,5 @@
 use Rattle.records.proofs.Records.{pair_none, pair-cut, pair_all}
 use Rattle.scan.proofs.Fields.{no_num, is_num, no_time, is_time}
-use Prim.Native.Nat.{◌-◌}
 use Rattle.records.proofs.read_pair.Goals as goal
 
 -- src/lib.rt:53:9

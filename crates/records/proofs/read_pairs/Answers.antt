@@ -1,5 +1,4 @@
 use Rattle.records.proofs.Records.{no_pair, is_pair, pairs_start, pairs_stop, pairs_more, pairs_full}
-use Prim.Native.Nat.{◌-◌}
 use native.Mathlib.Omega.{arith}
 use Rattle.records.proofs.read_pairs.Goals as goal
 

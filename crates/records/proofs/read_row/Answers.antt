@@ -2,7 +2,6 @@ use Rattle.records.proofs.Records.{no_diff, is_diff, row_none, row_cut₁, row_c
 use Rattle.grid.proofs.Signed.{back}
 use Rattle.scan.proofs.Fields.{no_num, is_num, no_time, is_time}
 use native.Mathlib.Omega.{arith}
-use Prim.Native.Nat.{◌-◌}
 use Rattle.records.proofs.read_row.Goals as goal
 
 -- src/lib.rt:35:9

@@ -1,6 +1,5 @@
 use Rattle.records.proofs.Records.{no_row, is_row, rows_start, rows_stop, rows_store, rows_full}
 use Rattle.grid.proofs.Signed.{back}
-use Prim.Native.Nat.{◌-◌}
 use native.Mathlib.Omega.{arith}
 use Rattle.records.proofs.read_rows.Goals as goal
 

@@ -2,7 +2,6 @@ use Rattle.records.proofs.Records.{no_row, is_row, line_none, line_bad, line_ope
 use Rattle.scan.proofs.Fields.{no_place, is_place}
 use Rattle.grid.proofs.Signed.{back}
 use native.Mathlib.Omega.{arith}
-use Prim.Native.Nat.{◌-◌}
 use Rattle.records.proofs.row_line.Goals as goal
 
 -- src/lib.rt:66:9

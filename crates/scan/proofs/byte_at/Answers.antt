@@ -1,5 +1,4 @@
 use lib.ListN.{get_or-eq_default}
-use Prim.Native.Nat.{◌-◌}
 use mathlib.Core.Path.{sym}
 use Rattle.scan.proofs.byte_at.Goals as goal
 

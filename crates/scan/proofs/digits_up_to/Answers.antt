@@ -1,6 +1,5 @@
 use Rattle.scan.proofs.Numbers.{counting_start, counting_stop, counting_over, counting_more, counting_end, digit_yes, digit_low, digit_high}
 use native.Mathlib.Omega.{arith}
-use Prim.Native.Nat.{◌-◌}
 use Rattle.scan.proofs.digits_up_to.Goals as goal
 
 -- src/lib.rt:64:5

@@ -1,5 +1,4 @@
 use Rattle.scan.proofs.Numbers.{digit_low, digit_from}
-use Prim.Native.Nat.{◌-◌}
 use mathlib.Core.Path.{sym}
 use Rattle.scan.proofs.is_digit.Goals as goal
 

@@ -1,7 +1,7 @@
 use Rattle.scan.proofs.Numbers.{inside_is, plain-at-zero, plain-at_other}
 use native.Mathlib.Omega.{arith}
 use lib.ListN.{length}
-use Prim.Native.Nat.{◌-◌, ◌<◌}
+use Prim.Native.Nat.{◌<◌}
 use Rattle.scan.proofs.is_plain.Goals as goal
 
 -- src/lib.rt:52:37

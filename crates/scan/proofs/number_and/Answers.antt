@@ -1,5 +1,4 @@
 use Rattle.scan.proofs.Fields.{no_num, is_num, no_place, is_place, ending_none, ending-cut, ending_all}
-use Prim.Native.Nat.{◌-◌}
 use Rattle.scan.proofs.number_and.Goals as goal
 
 -- src/lib.rt:30:9

@@ -1,6 +1,5 @@
 use mir.Facts.{to_z_pos}
 use mir.Syntax.{w64}
-use Prim.Native.Nat.{◌-◌}
 use Rattle.scan.proofs.positive.Goals as goal
 
 -- src/lib.rt:71:1

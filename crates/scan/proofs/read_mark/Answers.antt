@@ -1,6 +1,5 @@
 use Rattle.scan.proofs.Numbers.{mark_yes, mark_no, mark_short}
 use native.Mathlib.Omega.{arith}
-use Prim.Native.Nat.{◌-◌}
 use Rattle.scan.proofs.read_mark.Goals as goal
 
 -- src/lib.rt:99:13

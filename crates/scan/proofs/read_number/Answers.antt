@@ -1,5 +1,4 @@
 use Rattle.scan.proofs.Numbers.{number-plain, number-not}
-use Prim.Native.Nat.{◌-◌}
 use mathlib.Core.Path.{sym, ◌∙◌}
 use Rattle.scan.proofs.read_number.Goals as goal
 

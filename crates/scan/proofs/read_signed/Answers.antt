@@ -1,7 +1,7 @@
 use Rattle.scan.proofs.Fields.{no_num, is_num, number_small, minus_inside, minus_none, minus-zero, minus_all, plus_none, plus_all, kept-z}
 use native.Mathlib.Omega.{arith}
 use lib.ListN.{length}
-use Prim.Native.Nat.{◌-◌, ◌≤◌, ◌<◌}
+use Prim.Native.Nat.{◌≤◌, ◌<◌}
 use Rattle.scan.proofs.read_signed.Goals as goal
 
 -- src/lib.rt:82:51

@@ -1,7 +1,7 @@
 use Rattle.scan.proofs.Fields.{no_num, is_num, time_none, time-cut, time_all, ending_small, number_small}
 use native.Mathlib.Omega.{arith}
 use mathlib.Core.List.{[], ◌∷◌}
-use Prim.Native.Nat.{◌-◌, ◌≤◌}
+use Prim.Native.Nat.{◌≤◌}
 use Rattle.scan.proofs.read_time.Goals as goal
 
 -- src/lib.rt:42:9

@@ -1,6 +1,5 @@
 use Rattle.scan.proofs.Numbers.{word_more, word_other, word_short, word_end}
 use native.Mathlib.Omega.{arith}
-use Prim.Native.Nat.{◌-◌}
 use mathlib.Core.Path.{refl}
 use Rattle.scan.proofs.read_word.Goals as goal
 

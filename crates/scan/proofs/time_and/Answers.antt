@@ -1,5 +1,4 @@
 use Rattle.scan.proofs.Fields.{no_time, is_time, no_place, is_place, ending_none, ending-cut, ending_all}
-use Prim.Native.Nat.{◌-◌}
 use Rattle.scan.proofs.time_and.Goals as goal
 
 -- src/lib.rt:55:9

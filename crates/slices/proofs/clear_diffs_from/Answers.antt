@@ -1,5 +1,4 @@
 use native.Mathlib.Omega.{arith}
-use Prim.Native.Nat.{◌-◌}
 use lib.IntN.{pos}
 use lib.ListN.{length, length-set}
 use Rattle.grid.proofs.Loops.{put_more, put_end, fills_more, fills_none}

@@ -1,5 +1,4 @@
 use native.Mathlib.Omega.{arith}
-use Prim.Native.Nat.{◌-◌}
 use Rattle.grid.proofs.Loops.{drop_more}
 use Rattle.slices.proofs.Writes.{copying_start, copying_more, copying_end}
 use Rattle.slices.proofs.copy.Goals as goal

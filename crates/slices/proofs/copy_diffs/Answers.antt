@@ -1,5 +1,4 @@
 use native.Mathlib.Omega.{arith}
-use Prim.Native.Nat.{◌-◌}
 use Rattle.slices.proofs.Writes.{copying_start, copying_more, copying_end}
 use Rattle.grid.proofs.Signed.{drop_more_diff}
 use Rattle.slices.proofs.copy_diffs.Goals as goal

@@ -1,5 +1,4 @@
 use native.Mathlib.Omega.{arith}
-use Prim.Native.Nat.{◌-◌}
 use lib.ListN.{length-set}
 use Rattle.grid.proofs.Loops.{put_more, put_end}
 use Rattle.slices.proofs.Writes.{gather_more, gather_none}

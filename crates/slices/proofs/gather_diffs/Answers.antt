@@ -1,5 +1,4 @@
 use native.Mathlib.Omega.{arith}
-use Prim.Native.Nat.{◌-◌}
 use mathlib.Core.Path.{◌∙◌}
 use lib.ListN.{length-set}
 use Rattle.grid.proofs.Loops.{put_more, put_end}

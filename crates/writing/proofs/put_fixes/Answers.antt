@@ -1,7 +1,6 @@
 use lib.ListN.{get_or}
 use lib.IntN.{pos}
 use Rattle.grid.proofs.Signed.{back}
-use Prim.Native.Nat.{◌-◌}
 use native.Mathlib.Omega.{arith}
 use Rattle.writing.proofs.Lines.{lines_start, lines_more, lines_none, fix_is}
 use Rattle.print.proofs.Put.{writing_more, writing_long, writing_end}

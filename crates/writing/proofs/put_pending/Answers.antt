@@ -1,4 +1,3 @@
-use Prim.Native.Nat.{◌-◌}
 use native.Mathlib.Omega.{arith}
 use Rattle.writing.proofs.Lines.{lines_start, lines_more, lines_none, pair_is}
 use Rattle.print.proofs.Put.{writing_more, writing_long, writing_end}

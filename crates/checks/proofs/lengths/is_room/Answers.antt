@@ -1,4 +1,3 @@
-use Prim.Native.Nat.{◌-◌}
 use Rattle.checks.proofs.Room.{room_short, room_hit, room_miss, room_end}
 use Rattle.checks.proofs.lengths.is_room.Goals as goal
 

@@ -1,7 +1,6 @@
 use borrow.Author.Rules.{rules}
 use borrow.Author.Tests.{not-true, not-false}
 use native.Mathlib.Omega.{arith}
-use Prim.Native.Nat.{◌-◌}
 use lib.Dec.{ltb}
 use mathlib.Core.Path.{refl, sym, ◌∙◌}
 use Rattle.grid.specs.Consolidate.{lex}

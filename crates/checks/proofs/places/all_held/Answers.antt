@@ -1,5 +1,4 @@
 use borrow.Author.Tests.{not-true, not-false}
-use Prim.Native.Nat.{◌-◌}
 use mathlib.Core.Path.{sym, ◌∙◌}
 use Rattle.grid.proofs.Loops.{every_hit, every_miss, every_end}
 use Rattle.checks.proofs.places.all_held.Goals as goal

@@ -1,5 +1,4 @@
 use mathlib.Core.Bool.{not}
-use Prim.Native.Nat.{◌-◌}
 use mathlib.Core.Path.{sym, ◌∙◌, ap}
 use Rattle.grid.proofs.Loops.{every_hit, every_miss, every_end}
 use Rattle.checks.proofs.places.all_short.Goals as goal

@@ -1,6 +1,5 @@
 use Rattle.edits.proofs.InOrder.{length_keys, keys_before}
 use Rattle.histories.proofs.Sweeps.{climbs_start, climbs_more, climbs_stops, climbs_end}
-use Prim.Native.Nat.{◌-◌}
 use mathlib.Core.Path.{sym, ◌∙◌}
 use Rattle.edits.proofs.order.ascend_by_value.Goals as goal
 

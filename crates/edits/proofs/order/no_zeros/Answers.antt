@@ -3,7 +3,6 @@ use Rattle.grid.proofs.Loops.{every_hit, every_miss, every_end}
 use Rattle.grid.specs.Consolidate.{is_zero}
 use lib.ListN.{get_or}
 use lib.IntN.{pos}
-use Prim.Native.Nat.{◌-◌}
 use mathlib.Core.Bool.{not}
 use mathlib.Core.Path.{refl}
 use Rattle.edits.proofs.order.no_zeros.Goals as goal

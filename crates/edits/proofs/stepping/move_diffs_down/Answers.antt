@@ -1,6 +1,5 @@
 use lib.IntN.{pos}
 use Rattle.grid.proofs.Signed.{back}
-use Prim.Native.Nat.{◌-◌}
 use Rattle.histories.proofs.Steps.{sliding_start, sliding_more, sliding_end, slid_none}
 use Rattle.edits.proofs.stepping.move_diffs_down.Goals as goal
 

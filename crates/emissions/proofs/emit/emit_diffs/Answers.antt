@@ -4,7 +4,6 @@ use mir.Syntax.{w64}
 use mir.Val.{to_z, of_z}
 use Rattle.emissions.proofs.Emissions.{writing_start, writing_more, writing_end, taken_none, taken_map}
 use mathlib.Core.Path.{ap}
-use Prim.Native.Nat.{◌-◌}
 use lib.IntN.{pos}
 use mathlib.Core.List.{map}
 use lib.ListN.{take}

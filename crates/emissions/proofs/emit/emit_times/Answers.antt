@@ -1,6 +1,5 @@
 use Rattle.emissions.proofs.Emissions.{writing_start, writing_more, writing_end, taken_none, taken_map}
 use mathlib.Core.Path.{ap}
-use Prim.Native.Nat.{◌-◌}
 use Rattle.grid.specs.Times.{join}
 use mathlib.Core.List.{map}
 use Rattle.emissions.proofs.emit.emit_times.Goals as goal

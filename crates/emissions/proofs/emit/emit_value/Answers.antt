@@ -1,7 +1,6 @@
 use native.Mathlib.Nat.{sub-zero}
 use Rattle.emissions.proofs.Emissions.{writing_start, writing_more, writing_end}
 use Rattle.grid.proofs.Loops.{fills_more, fills_none}
-use Prim.Native.Nat.{◌-◌}
 use Rattle.emissions.proofs.emit.emit_value.Goals as goal
 
 pub loop-i-init : goal.loop-i-init

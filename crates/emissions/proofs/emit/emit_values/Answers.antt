@@ -1,5 +1,4 @@
 use Rattle.emissions.proofs.Emissions.{writing_start, writing_more, writing_end, taken_more, taken_none}
-use Prim.Native.Nat.{◌-◌}
 use Rattle.emissions.proofs.emit.emit_values.Goals as goal
 
 pub loop-i-init : goal.loop-i-init

@@ -1,4 +1,3 @@
-use Prim.Native.Nat.{◌-◌}
 use Rattle.grid.proofs.Signed.{back}
 use Rattle.fixing.proofs.Noting.{noting_start, in_diffs_lem, in_fk, in_fv, in_ft, in_fd, noting_more, noting_end}
 use borrow.Author.Rules.{rules}

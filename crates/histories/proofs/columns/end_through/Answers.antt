@@ -1,7 +1,6 @@
 use borrow.Author.Tests.{le-leb, lt-leb}
 use lib.Dec.{leb}
 use mathlib.Core.Path.{refl}
-use Prim.Native.Nat.{◌-◌}
 use Rattle.histories.proofs.Steps.{ends_more, ends_here, ends_over}
 use Rattle.histories.proofs.columns.end_through.Goals as goal
 

@@ -1,6 +1,5 @@
 use borrow.Author.Tests.{lt-ltb, le-ltb}
 use Rattle.histories.proofs.Sweeps.{climbs_start, climbs_more, climbs_stops, climbs_end}
-use Prim.Native.Nat.{◌-◌}
 use Rattle.histories.proofs.columns.is_ascending.Goals as goal
 
 pub loop-i-init : goal.loop-i-init

@@ -1,5 +1,4 @@
 use Rattle.histories.proofs.Sweeps.{replacing_start, replacing_more, replacing_end}
-use Prim.Native.Nat.{◌-◌}
 use Rattle.histories.proofs.columns.join_each.Goals as goal
 
 pub loop-i-init : goal.loop-i-init

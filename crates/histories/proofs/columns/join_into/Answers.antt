@@ -1,5 +1,4 @@
 use Rattle.histories.proofs.Sweeps.{mapping_start, mapping_more, mapping_end}
-use Prim.Native.Nat.{◌-◌}
 use Rattle.histories.proofs.columns.join_into.Goals as goal
 
 pub loop-i-init : goal.loop-i-init

@@ -1,5 +1,4 @@
 use mathlib.Core.Path.{refl}
-use Prim.Native.Nat.{◌-◌}
 use Rattle.histories.proofs.Steps.{sliding_start, sliding_more, sliding_end, slid_none}
 use Rattle.histories.proofs.columns.move_down.Goals as goal
 

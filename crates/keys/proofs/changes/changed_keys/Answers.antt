@@ -1,6 +1,5 @@
 use native.Mathlib.Omega.{arith}
 use borrow.Author.Rules.{rules}
-use Prim.Native.Nat.{◌-◌}
 use Rattle.keys.proofs.Changed.{merging_start, merging_room, merging_less, merging_more, merging_end}
 use Rattle.keys.proofs.changes.changed_keys.Goals as goal
 

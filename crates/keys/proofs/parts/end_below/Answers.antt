@@ -1,7 +1,6 @@
 use borrow.Author.Tests.{lt-ltb, le-ltb}
 use lib.Dec.{ltb}
 use mathlib.Core.Path.{refl}
-use Prim.Native.Nat.{◌-◌}
 use Rattle.histories.proofs.Steps.{ends_more, ends_here, ends_over}
 use Rattle.keys.proofs.parts.end_below.Goals as goal
 

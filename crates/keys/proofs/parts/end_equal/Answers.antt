@@ -1,7 +1,6 @@
 use borrow.Author.Tests.{eq-eqb, ne_eqb}
 use lib.Dec.{eqb}
 use mathlib.Core.Path.{refl}
-use Prim.Native.Nat.{◌-◌}
 use Rattle.histories.proofs.Steps.{ends_more, ends_here, ends_over}
 use Rattle.keys.proofs.parts.end_equal.Goals as goal
 

@@ -1,7 +1,6 @@
 use Rattle.moments.proofs.Passing.{passing_start, here_v, here_d, bounds, run_asks, passing_less, pass_skip, pass_write, passing_end}
 use Rattle.grid.proofs.Signed.{back}
 use mathlib.Core.Path.{sym, ◌∙◌}
-use Prim.Native.Nat.{◌-◌}
 use borrow.Author.Rules.{rules}
 use Rattle.moments.proofs.moment.present.Goals as goal
 

@@ -1,6 +1,5 @@
 use Rattle.moments.proofs.Summing.{run_hit, run_more, run_none}
 use mathlib.Core.Path.{refl}
-use Prim.Native.Nat.{◌-◌}
 use borrow.Author.Rules.{rules}
 use Rattle.moments.proofs.moment.run_end.Goals as goal
 

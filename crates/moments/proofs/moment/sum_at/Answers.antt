@@ -5,7 +5,6 @@ use mir.Syntax.{w64}
 use lib.ListN.{get_or}
 use lib.IntN.{pos}
 use mathlib.Core.Path.{sym, ◌∙◌}
-use Prim.Native.Nat.{◌-◌}
 use Rattle.moments.proofs.moment.sum_at.Goals as goal
 
 -- src/moment.rt:45:5

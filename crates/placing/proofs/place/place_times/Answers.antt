@@ -1,7 +1,6 @@
 use Rattle.slices.proofs.Writes.{gather_more, gather_none}
 use Rattle.grid.proofs.Loops.{put_more, put_end}
 use lib.ListN.{length-set}
-use Prim.Native.Nat.{◌-◌}
 use native.Mathlib.Omega.{arith}
 use Rattle.placing.proofs.place.place_times.Goals as goal
 

@@ -1,4 +1,3 @@
-use Prim.Native.Nat.{◌-◌}
 use mathlib.Core.Path.{sym, ◌∙◌}
 use Rattle.plain.proofs.Going.{going_start, going_in, going_place, going_mark, going_fits, going_less, going_asks, going_more, going_kept, going_end}
 use Rattle.plain.proofs.key.rounds_plainly.Goals as goal

@@ -1,4 +1,3 @@
-use Prim.Native.Nat.{◌-◌}
 use Rattle.grid.proofs.Signed.{back}
 use Rattle.rounds.proofs.Laying.{laying_start, in_times_lem, in_diffs_lem, in_yv, in_yt, in_yd, laying_more, laying_end}
 use borrow.Author.Rules.{rules}

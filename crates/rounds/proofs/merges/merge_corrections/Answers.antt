@@ -1,7 +1,6 @@
 use Rattle.rounds.proofs.Mixing.{mixing_start, here_v, here_t, here_d, in_left, in_right, mix_left, mix_right, mixing_end}
 use Rattle.grid.proofs.Signed.{back}
 use mathlib.Core.Path.{sym, ◌∙◌}
-use Prim.Native.Nat.{◌-◌}
 use borrow.Author.Rules.{rules}
 use Rattle.rounds.proofs.merges.merge_corrections.Goals as goal
 

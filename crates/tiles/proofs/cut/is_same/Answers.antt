@@ -1,4 +1,3 @@
-use Prim.Native.Nat.{◌-◌}
 use Rattle.tiles.proofs.Cutting.{same_length, same_hit, same_miss, same_end}
 use Rattle.tiles.proofs.cut.is_same.Goals as goal
 

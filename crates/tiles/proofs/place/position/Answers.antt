@@ -1,5 +1,4 @@
 use Rattle.tiles.proofs.Places.{position_hit, position_miss, position_end}
-use Prim.Native.Nat.{◌-◌}
 use native.Mathlib.Omega.{arith}
 use Rattle.tiles.proofs.place.position.Goals as goal
 

@@ -1,6 +1,5 @@
 use Rattle.tiles.proofs.Places.{placing_start, placing_more, placing_end}
 use Rattle.tiles.specs.Described.{position}
-use Prim.Native.Nat.{◌-◌}
 use Rattle.tiles.proofs.place.write_places.Goals as goal
 
 pub loop-i-init : goal.loop-i-init

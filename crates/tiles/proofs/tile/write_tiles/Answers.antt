@@ -1,5 +1,4 @@
 use Rattle.tiles.proofs.Walking.{walking_start, cut_room, kept_room, copy_room, walking_more, walking_end}
-use Prim.Native.Nat.{◌-◌}
 use native.Mathlib.Omega.{arith}
 use borrow.Author.Rules.{rules}
 use Rattle.tiles.proofs.tile.write_tiles.Goals as goal

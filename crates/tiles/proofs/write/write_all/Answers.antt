@@ -1,4 +1,3 @@
-use Prim.Native.Nat.{◌-◌}
 use mathlib.Core.Path.{refl}
 use Rattle.tiles.proofs.Writing.{writing_start, writing_more, writing_end}
 use Rattle.tiles.proofs.write.write_all.Goals as goal

@@ -1,4 +1,3 @@
-use Prim.Native.Nat.{◌-◌}
 use native.Mathlib.Omega.{arith}
 use Rattle.tiles.proofs.Writing.{writing_start, writing_more, writing_end, zeros_length, zeros_at}
 use Rattle.tiles.proofs.write.write_zeros.Goals as goal

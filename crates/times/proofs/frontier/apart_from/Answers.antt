@@ -1,6 +1,5 @@
 use borrow.Author.Tests.{not-true, not-false}
 use mathlib.Core.Path.{sym, ◌∙◌}
-use Prim.Native.Nat.{◌-◌}
 use Rattle.grid.proofs.Loops.{every_hit, every_miss, every_end}
 use Rattle.times.proofs.frontier.apart_from.Goals as goal
 

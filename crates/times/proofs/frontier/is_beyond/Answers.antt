@@ -1,9 +1,7 @@
 use borrow.Author.Rules.{rules}
 use mathlib.Core.Path.{sym, ◌∙◌}
-use Prim.Native.Nat.{◌-◌}
 use Rattle.grid.proofs.Loops.{any_hit, any_miss, any_end}
 use Rattle.grid.specs.Frontiers.{beyond}
-use Rattle.grid.specs.Times.{below}
 use Rattle.times.proofs.frontier.is_beyond.Goals as goal
 
 pub loop-i-init : goal.loop-i-init

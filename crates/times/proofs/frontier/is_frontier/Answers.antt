@@ -1,6 +1,5 @@
 use borrow.Author.Tests.{not-true, not-false}
 use mathlib.Core.Path.{sym, ◌∙◌}
-use Prim.Native.Nat.{◌-◌}
 use Rattle.times.proofs.Frontiers.{frontier_long, frontier_hit, frontier_miss, frontier_end}
 use Rattle.times.proofs.frontier.is_frontier.Goals as goal
 

@@ -1,5 +1,4 @@
 use mathlib.Core.Path.{sym, ◌∙◌}
-use Prim.Native.Nat.{◌-◌}
 use Rattle.times.proofs.Inserting.{placing_start, placing_here, placing_more, placing_end}
 use Rattle.times.proofs.insert.place_of.Goals as goal
 

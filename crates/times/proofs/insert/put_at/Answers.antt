@@ -1,4 +1,3 @@
-use Prim.Native.Nat.{◌-◌}
 use Rattle.grid.proofs.Slices.{moving_start, moving_more, moving_end}
 use Rattle.times.proofs.insert.put_at.Goals as goal
 

@@ -1,8 +1,6 @@
 use mathlib.Core.Path.{sym, ap, ◌∙◌}
-use Prim.Native.Nat.{◌-◌}
 use mathlib.Core.Bool.{not}
 use Rattle.grid.proofs.Slices.{removing_start, removing_pass, removing_keep, removing_end}
-use Rattle.grid.specs.Times.{below}
 use Rattle.times.proofs.insert.remove_dominated.Goals as goal
 
 pub loop-i-init : goal.loop-i-init

@@ -1,5 +1,4 @@
 use mathlib.Core.Path.{sym, ◌∙◌}
-use Prim.Native.Nat.{◌-◌}
 use Rattle.times.proofs.Finding.{searching_start, searching_better, searching_worse, searching_end}
 use Rattle.times.proofs.minimal.first_minimal.Goals as goal
 

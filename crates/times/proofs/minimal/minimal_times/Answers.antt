@@ -1,4 +1,3 @@
-use Prim.Native.Nat.{◌-◌}
 use Rattle.times.proofs.Finding.{finding_start, finding_more, finding_end, finding_over}
 use Rattle.times.proofs.minimal.minimal_times.Goals as goal
 

@@ -1,6 +1,5 @@
 use Rattle.wave.proofs.Checking.{small_read}
 use borrow.Author.Tests.{not-true, not-false}
-use Prim.Native.Nat.{◌-◌}
 use lib.IntN.{pos}
 use mathlib.Core.Path.{sym, ◌∙◌}
 use Rattle.wave.specs.Calls.{small_diff}
