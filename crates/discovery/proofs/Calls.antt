@@ -4,7 +4,7 @@
 -- before-zero: where the status is 0 before any work, all that is lent is well. well_lent: so the work may begin
 -- untouched: a status other than 0 before any work leaves memory as it was
 -- room_kept: what was found fits its slices. discovered: what was found, and zeros elsewhere
-use Prim.Native.Nat.{ℕ, suc, ◌+◌, ◌-◌, ◌*◌, ◌≤◌}
+use Prim.Native.Nat.{ℕ, suc, ◌-◌, ◌*◌, ◌≤◌}
 use native.Mathlib.Omega.{arith}
 use native.Mathlib.Nat.{sub-zero}
 use mathlib.Core.Bool.{Bool, true, false, cond, ◌&&◌}

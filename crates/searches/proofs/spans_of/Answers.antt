@@ -1,5 +1,4 @@
 use Rattle.searches.proofs.Searching.{searching_start, searching_more, searching_end}
-use Prim.Native.Nat.{◌-◌}
 use native.Mathlib.Omega.{arith}
 use Rattle.searches.proofs.spans_of.Goals as goal
 

@@ -1,5 +1,4 @@
 use native.Mathlib.Omega.{arith}
-use Prim.Native.Nat.{◌-◌}
 use Rattle.demands.proofs.Lending.{heads_end}
 use Rattle.demands.proofs.sizes.count_heads.Goals as goal
 

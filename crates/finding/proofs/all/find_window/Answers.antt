@@ -1,7 +1,6 @@
 use Rattle.finding.proofs.Windowing.{windowing_start, windowing_room, windowing_more, windowing_end, same_start, same_more, scratch_still, runs_still, parted_room, spans_lent, found_next, found_none, eight_fit, next_fits, less_left, mends_here}
 use Rattle.finding.specs.Windowed.{state_at}
 use lib.ListN.{length, length-set}
-use Prim.Native.Nat.{◌-◌}
 use Rattle.finding.proofs.all.find_window.Goals as goal
 
 pub loop-b-init : goal.loop-b-init

@@ -1,5 +1,4 @@
 use borrow.Author.Rules.{rules}
-use Prim.Native.Nat.{◌-◌}
 use Rattle.grid.proofs.Signed.{back}
 use Rattle.gather.proofs.Dating.{dating_start, in_diffs_lem, in_uv, in_ut, in_ud, dating_more, dating_end}
 use Rattle.gather.proofs.gathering.append_dated.Goals as goal

@@ -1,5 +1,4 @@
 use borrow.Author.Rules.{rules}
-use Prim.Native.Nat.{◌-◌}
 use Rattle.grid.proofs.Signed.{back}
 use Rattle.gather.proofs.Moving.{moving_start, at_v, at_t, at_d, moving_more, moving_end}
 use Rattle.gather.proofs.gathering.move_back.Goals as goal

@@ -1,5 +1,4 @@
 use Rattle.pops.proofs.Tracks.{shifts_start, shifts_more, shifts_end}
-use Prim.Native.Nat.{◌-◌}
 use native.Mathlib.Omega.{arith}
 use Rattle.pops.proofs.stepping.shift_down.Goals as goal
 

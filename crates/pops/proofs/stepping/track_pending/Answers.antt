@@ -1,5 +1,4 @@
 use Rattle.pops.proofs.Tracks.{tracks_start, tracks_more, tracks_room, tracks_left, tracks_end}
-use Prim.Native.Nat.{◌-◌}
 use Rattle.pops.proofs.stepping.track_pending.Goals as goal
 
 -- src/stepping.rt:48:5

@@ -1,5 +1,4 @@
 use Rattle.replay.proofs.Playing.{playing_start, playing_fits, playing_less, playing_turn, playing_mark, playing_more, playing_kept, playing_end}
-use Prim.Native.Nat.{◌-◌}
 use mathlib.Core.Path.{sym, ◌∙◌}
 use Rattle.replay.proofs.all.replay_rounds.Goals as goal
 

@@ -1,5 +1,4 @@
 use mathlib.Core.Path.{sym, ◌∙◌}
-use Prim.Native.Nat.{◌-◌}
 use Rattle.replaying.proofs.Settling.{loads_start, loads_again, replay_asks, replay_more}
 use Rattle.fixing.proofs.Slotting.{slotting_start, slotting_kept, slotting_end, slotting_fits, slotting_less, in_keys_lem, slot_reads, slot_input, slot_output, slot_moments, slot_places}
 use Rattle.replaying.proofs.window.settle_replayed.Goals as goal

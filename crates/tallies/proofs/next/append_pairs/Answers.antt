@@ -1,5 +1,4 @@
 use Rattle.tallies.proofs.Appending.{appending_start, appending_here, appending_more, appending_end}
-use Prim.Native.Nat.{◌-◌}
 use borrow.Author.Rules.{rules}
 use Rattle.tallies.proofs.next.append_pairs.Goals as goal
 

@@ -1,6 +1,5 @@
 use Rattle.windows.proofs.Going.{same_more, going_start, going_within, going_fits, going_range, going_less, going_asks, going_more, going_end}
 use mathlib.Core.Path.{refl, sym, ◌∙◌}
-use Prim.Native.Nat.{◌-◌}
 use Rattle.windows.proofs.all.work_windows.Goals as goal
 
 pub loop-e-init : goal.loop-e-init
