@@ -1,4 +1,4 @@
-// Links the static library that `rt staticlib exports` writes. DANISKOL_LIB names its folder; by default it is this repository's.
+// Links the static library that bindings/archive writes. DANISKOL_LIB names its folder; by default it is this repository's.
 use std::{env, path::PathBuf};
 
 fn main() {
@@ -9,7 +9,7 @@ fn main() {
     let archive = folder.join("libexports.a");
     println!("cargo:rerun-if-changed={}", archive.display());
     if !archive.exists() {
-        println!("cargo:warning={} is missing: run `rt staticlib exports` first", archive.display());
+        println!("cargo:warning={} is missing: run bindings/archive first", archive.display());
     }
     println!("cargo:rustc-link-search=native={}", folder.display());
     println!("cargo:rustc-link-lib=static=exports");

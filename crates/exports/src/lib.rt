@@ -1,4 +1,4 @@
-// The call for programs in Rust and C, and the line form: numbers and slices only. A slice crosses as its address and its length.
+// The call and the line form for other languages, as functions over numbers and slices only. exports_c gives them to C under the same names.
 #![tactic(auto)]
 
 ghost use Rattle.std.specs.Prelude.{◌≡◌, ◌≤◌};
@@ -17,38 +17,33 @@ use retire::retire;
 use telling::tell;
 
 // How many numbers and how many diffs result memory has.
-#[unsafe(no_mangle)]
-pub extern "C" fn daniskol_numbers_size() -> usize
+pub fn daniskol_numbers_size() -> usize
     ensures { result ≡ numbers_size }
 {
     NUMBERS_SIZE
 }
 
-#[unsafe(no_mangle)]
-pub extern "C" fn daniskol_diffs_size() -> usize
+pub fn daniskol_diffs_size() -> usize
     ensures { result ≡ most_records }
 {
     DIFFS_SIZE
 }
 
 // How long the first work slice must be, and how long each of the others.
-#[unsafe(no_mangle)]
-pub extern "C" fn daniskol_moments_size() -> usize
+pub fn daniskol_moments_size() -> usize
     ensures { result ≡ 65537 }
 {
     MOMENTS_SIZE
 }
 
-#[unsafe(no_mangle)]
-pub extern "C" fn daniskol_column_size() -> usize
+pub fn daniskol_column_size() -> usize
     ensures { result ≡ 8192 }
 {
     COLUMN_SIZE
 }
 
 // How long they must be for one call: of its width, how many records the old run has, the keys of the new run and those of the pending list.
-#[unsafe(no_mangle)]
-pub extern "C" fn daniskol_moments_needed(
+pub fn daniskol_moments_needed(
     width: u64,
     old: usize,
     newkeys: &[u64],
@@ -59,8 +54,7 @@ pub extern "C" fn daniskol_moments_needed(
     moments_needed(width, old, newkeys, pendingkeys)
 }
 
-#[unsafe(no_mangle)]
-pub extern "C" fn daniskol_column_needed(old: usize, new: usize) -> usize
+pub fn daniskol_column_needed(old: usize, new: usize) -> usize
     ensures { result ≡ column_needed old new }
 {
     column_needed(old, new)
@@ -68,8 +62,7 @@ pub extern "C" fn daniskol_column_needed(old: usize, new: usize) -> usize
 
 // The call. Returns its status, and writes status, crossings, and how many tiles, corrections, pending entries and frontier times there are to the
 // first six of counts; where these are fewer than six, lent memory is too short (11).
-#[unsafe(no_mangle)]
-pub extern "C" fn daniskol_retire(
+pub fn daniskol_retire(
     mode: u64,
     width: u64,
     lower: &[u64],
@@ -142,8 +135,7 @@ pub extern "C" fn daniskol_retire(
 }
 
 // How many bytes the longest reply has.
-#[unsafe(no_mangle)]
-pub extern "C" fn daniskol_text_size() -> usize
+pub fn daniskol_text_size() -> usize
     ensures { result ≡ most_text }
 {
     TEXT_SIZE
@@ -151,8 +143,7 @@ pub extern "C" fn daniskol_text_size() -> usize
 
 // Reads the lines of a request, makes the call in memory of its own, and writes the lines of its reply. Returns how many bytes these have; where the text
 // may be too long for out, none is written.
-#[unsafe(no_mangle)]
-pub extern "C" fn daniskol_answer(request: &[u8], out: &mut [u8]) -> usize
+pub fn daniskol_answer(request: &[u8], out: &mut [u8]) -> usize
     ensures { Printed (reply request.now) out.old out.new result }
 {
     if out.len() < TEXT_SIZE {

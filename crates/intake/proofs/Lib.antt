@@ -1,0 +1,2 @@
+mod Taking
+pub mod Memory
