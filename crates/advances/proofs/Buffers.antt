@@ -3,12 +3,12 @@
 -- held_joined: what is asked of a buffer holds where its times are joined
 -- advanced_put, advanced_not: the edits were put in, and only the times were joined
 -- front_asks, front_settled: what the consolidation of the front asks, and what it leaves
--- edits_done, edits_settled, edits_left: a buffer that was advanced in place, one that was consolidated then, and there was no meet
+-- edits_settled, edits_left: a buffer that was consolidated after its times were joined, and there was no meet
 -- joined_held: a buffer whose times were joined is as large as it was. lent_held, held_lent: the buffer, and other columns, with the scratch
+use Rattle.std.specs.Prelude.{Some, None}
 use Prim.Native.Nat.{ℕ, zero, suc, ◌-◌, ◌≤◌}
 use native.Mathlib.Nat.{sub-zero}
 use native.Mathlib.Omega.{arith}
-use mathlib.Core.Bool.{Bool, true, false}
 use mathlib.Core.List.{List, [], ◌∷◌, ◌++◌, map}
 use mathlib.Core.Option.{Option, none, some}
 use mathlib.Core.Path.{◌≡◌, refl, sym, ◌∙◌, ap}
@@ -18,7 +18,6 @@ use lib.Seq.{length-take-le, take_at, drop_at}
 use Rattle.grid.specs.Consolidate.{consolidate}
 use Rattle.grid.specs.Times.{join, joined}
 use Rattle.grid.proofs.Sizes as sizes
-use Rattle.grid.proofs.Tests.{clash}
 use Rattle.consolidation.specs.Entries.{entries, consolidated, Front, Lent, LentWork}
 use Rattle.rules.specs.Histories.{Edit, by_value, joined_edit, advance_edits}
 use Rattle.edits.specs.Edits.{edits, Alike}
@@ -79,11 +78,11 @@ module _ (p : ℕ) {count : ℕ} {ts vs : List ℕ} {ds : List ℤ} (a : Held co
   pub held_joined : Held count (x ++ drop (count - 0) ts) vs ds
   held_joined = record { alike = joined-alike; within = rw joined_long a.within; bounded = a.bounded }
 
-  pub advanced_put : {es' : List Edit} {r : ℕ} → Renewed (consolidate by_value (take count (edits (x ++ drop (count - 0) ts) vs ds))) count (edits (x ++ drop (count - 0) ts) vs ds) es' r → AdvancedInPlace p count (edits ts vs ds) es' true r
-  advanced_put m = record { settled = λ t. joined_renewed p count (edits ts vs ds) held_within joined-columns m; joins = λ t. clash true refl t }
+  pub advanced_put : {es' : List Edit} {r : ℕ} → Renewed (consolidate by_value (take count (edits (x ++ drop (count - 0) ts) vs ds))) count (edits (x ++ drop (count - 0) ts) vs ds) es' r → AdvancedInPlace p count (edits ts vs ds) es' (Some r)
+  advanced_put m = joined_renewed p count (edits ts vs ds) held_within joined-columns m
 
-  pub advanced_not : AdvancedInPlace p count (edits ts vs ds) (edits (x ++ drop (count - 0) ts) vs ds) false count
-  advanced_not = record { settled = λ t. clash true refl (sym t); joins = λ t. joined-columns }
+  pub advanced_not : AdvancedInPlace p count (edits ts vs ds) (edits (x ++ drop (count - 0) ts) vs ds) None
+  advanced_not = joined-columns
 
 -- ---- the front consolidated
 consolidate_length : (es : List Edit) → length (consolidate by_value es) ≤ length es
@@ -99,8 +98,8 @@ module _ (count : ℕ) {ts vs : List ℕ} {ds : List ℤ} {places firsts seconds
   pub front_asks : Lent (take (count - 0) vs) (take (count - 0) ts) (take (count - 0) ds) × LentWork (length (take (count - 0) vs)) (take (count - 0) places) (take (count - 0) firsts) (take (count - 0) seconds) (take (count - 0) sums)
   front_asks =
       let l = lent_buffer count ts vs ds places firsts seconds sums a in
-      let s : length (take (count - 0) vs) ≡ length (take (count - 0) ts) = l.0.alike-second in
-      (record { alike-second = sym s; alike-diff = l.0.alike-diff ∙ sym s; bounded = l.0.bounded }, rw s l.1)
+      let s : length (take count vs) ≡ length (take count ts) = l.0.alike-second in
+      rw sub-zero (record { alike-second = sym s; alike-diff = l.0.alike-diff ∙ sym s; bounded = l.0.bounded }, rw s l.1)
 
   pub front_settled : {x y : List ℕ} {z : List ℤ} {r : ℕ} → Front (consolidated (entries (take (count - 0) vs) (take (count - 0) ts) (take (count - 0) ds))) (length (take (count - 0) vs)) r y x z
       → Renewed (consolidate by_value (take count (edits ts vs ds))) count (edits ts vs ds) (edits (x ++ drop (count - 0) ts) (y ++ drop (count - 0) vs) (z ++ drop (count - 0) ds)) r
@@ -112,27 +111,24 @@ module _ (count : ℕ) {ts vs : List ℕ} {ds : List ℤ} {places firsts seconds
       let i : count ≤ length ts = a.within in
       let n : length (take count (edits ts vs ds)) ≡ count = length-take-le count (edits ts vs ds) (omega arith) in
       let h : length (consolidate by_value (take count (edits ts vs ds))) ≤ count = omega (arith, consolidate_length (take count (edits ts vs ds))) in
-      record { within = fronted_within count ts vs ds a.alike w h; buffer = fronted_take count ts vs ds a.alike w h; same_ahead = fronted_drop count ts vs ds a.alike w h }
+      rw sub-zero (record { within = fronted_within count ts vs ds a.alike w h; buffer = fronted_take count ts vs ds a.alike w h; same_ahead = fronted_drop count ts vs ds a.alike w h })
 
 -- ---- the whole
-pub edits_done : {o : Option ℕ} {p count : ℕ} {es es₁ : List Edit} {done : Bool} {r : ℕ} → o ≡ some p → AdvancedInPlace p count es es₁ done r → done ≡ true → Renewed (advance_edits o (take count es)) count es es₁ r
-edits_done e w t = rw e (w.settled t)
-
 module _ {count : ℕ} {ts vs : List ℕ} {ds : List ℤ} (a : Held count ts vs ds) where
   whole_within : count ≤ length (edits ts vs ds)
   whole_within = rw (length-edits ts vs ds a.alike) a.within
 
   -- the buffer is as large as it was
-  pub joined_held : {p : ℕ} {ts₁ vs₁ : List ℕ} {ds₁ : List ℤ} {done : Bool} {r : ℕ} → Alike ts₁ vs₁ ds₁ → length ts₁ ≡ length ts → AdvancedInPlace p count (edits ts vs ds) (edits ts₁ vs₁ ds₁) done r → done ≡ false → Held count ts₁ vs₁ ds₁
-  joined_held {p} {ts₁} {vs₁} {ds₁} b l w n = record {
+  pub joined_held : (p : ℕ) {ts₁ vs₁ : List ℕ} {ds₁ : List ℤ} → Alike ts₁ vs₁ ds₁ → length ts₁ ≡ length ts → AdvancedInPlace p count (edits ts vs ds) (edits ts₁ vs₁ ds₁) None → Held count ts₁ vs₁ ds₁
+  joined_held p {ts₁} {vs₁} {ds₁} b l w = record {
     alike = b;
     within = rw l a.within;
-    bounded = rw (buffer_mass ts₁ vs₁ ds₁ b count, joined-mass p count (edits ts vs ds) whole_within (w.joins n), ← buffer_mass ts vs ds a.alike count) a.bounded;
+    bounded = rw (buffer_mass ts₁ vs₁ ds₁ b count, joined-mass p count (edits ts vs ds) whole_within w, ← buffer_mass ts vs ds a.alike count) a.bounded;
   }
 
-  pub edits_settled : {o : Option ℕ} {p : ℕ} {es₁ es' : List Edit} {done : Bool} {r r' : ℕ} → o ≡ some p → AdvancedInPlace p count (edits ts vs ds) es₁ done r → done ≡ false → Renewed (consolidate by_value (take count es₁)) count es₁ es' r'
+  pub edits_settled : {o : Option ℕ} {p : ℕ} {es₁ es' : List Edit} {r' : ℕ} → o ≡ some p → AdvancedInPlace p count (edits ts vs ds) es₁ None → Renewed (consolidate by_value (take count es₁)) count es₁ es' r'
       → Renewed (advance_edits o (take count (edits ts vs ds))) count (edits ts vs ds) es' r'
-  edits_settled {p = p} e w n m = rw e (joined_renewed p count (edits ts vs ds) whole_within (w.joins n) m)
+  edits_settled {p = p} e w m = rw e (joined_renewed p count (edits ts vs ds) whole_within w m)
 
 -- with the scratch
 module _ {count : ℕ} {ts vs : List ℕ} {ds : List ℤ} {places firsts seconds : List ℕ} {sums : List ℤ} (a : LentBuffer count ts vs ds places firsts seconds sums) where

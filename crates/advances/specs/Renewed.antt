@@ -6,8 +6,8 @@
 -- Divides key k es j: of the first k edits those up to j are before the key, and the others are not
 -- stands_at ts vs k j t v: the edit at j is one of the first k, and is of this time and value
 -- Follows i es: the edit at i is after all before it
--- AdvancedInPlace p count es es' done r: the buffer was advanced by p, and r are left; or only its times were joined
-use Rattle.std.specs.Prelude.{ℕ, ◌+◌, ◌≤◌, ◌<◌, Bool, true, false, ◌&&◌, List, ◌++◌, map, ◌≡◌, eqb, ltb, ℤ, nat_abs, length, take, drop, get_or}
+-- AdvancedInPlace p count es es' left: the buffer was advanced by p, and some are left; or only its times were joined
+use Rattle.std.specs.Prelude.{Option, Some, None, ℕ, ◌+◌, ◌≤◌, ◌<◌, Bool, true, false, ◌&&◌, List, ◌++◌, map, ◌≡◌, eqb, ltb, ℤ, nat_abs, length, take, drop, get_or}
 use Rattle.std.proofs.Math.Option.{some}
 use Rattle.grid.proofs.Consolidate.{Canon}
 use Rattle.grid.proofs.Lists.{All}
@@ -44,6 +44,6 @@ stands_at ts vs k j t v = ltb j k && (eqb (get_or ts j 0) t && eqb (get_or vs j 
 abbrev pub Follows : ℕ → List Edit → Type 0
 Follows i es = All (λ (e : Edit). by_value (key_of e) (key_of (get_or es i no_edit)) ≡ true) (take i es)
 
-pub record AdvancedInPlace (p count : ℕ) (es es' : List Edit) (done : Bool) (r : ℕ) : Type 0 where
-  pub settled : done ≡ true → Renewed (advance_edits (some p) (take count es)) count es es' r
-  pub joins : done ≡ false → es' ≡ map (joined_edit (some p)) (take count es) ++ drop count es
+abbrev pub AdvancedInPlace : ℕ → ℕ → List Edit → List Edit → Option ℕ → Type 0
+AdvancedInPlace p count es es' (Some r) = Renewed (advance_edits (some p) (take count es)) count es es' r
+AdvancedInPlace p count es es' None = es' ≡ map (joined_edit (some p)) (take count es) ++ drop count es

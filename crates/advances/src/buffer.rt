@@ -10,38 +10,26 @@ ghost use Rattle.advances.specs.Renewed.{Renewed, Held, AdvancedInPlace};
 use crate::put::{ascent, put_from};
 use consolidation::consolidate;
 use histories::join_each;
-use times::{Meet, PackedTime};
+use times::PackedTime;
 
-// How an advance in place ended: done, and `count` edits are left; or not, and only the times were joined.
-#[derive(Clone, Copy)]
-pub struct Advanced {
-    pub done: bool,
-    pub count: usize,
-}
-
-// Joins the first `count` edits with p. Where all but at most eight stand consolidated then, the others are put in, and no scratch is needed.
+// Joins the first `count` edits with p. Where all but at most eight stand consolidated then, the others are put in, and no scratch is needed: returns
+// how many are left. Otherwise only the times were joined.
 pub fn advance_in_place(
     p: PackedTime,
     times: &mut [u64],
     values: &mut [u64],
     diffs: &mut [i64],
     count: usize,
-) -> Advanced
+) -> Option<usize>
     requires { Held count times.old values.old diffs.old }
-    ensures { AdvancedInPlace p.0 count (edits times.old values.old diffs.old) (edits times.new values.new diffs.new) result.done result.count }
+    ensures { AdvancedInPlace p.0 count (edits times.old values.old diffs.old) (edits times.new values.new diffs.new) result }
 {
     join_each(p, &mut times[0..count]);
     let q = ascent(times, values, diffs, count);
     if count - q <= 8 {
-        let k = put_from(times, values, diffs, q, count);
-        return Advanced {
-            done: true,
-            count: k,
-        };
-    }
-    Advanced {
-        done: false,
-        count: count,
+        Some(put_from(times, values, diffs, q, count))
+    } else {
+        None
     }
 }
 
@@ -76,7 +64,7 @@ pub fn advance_edits(
     values: &mut [u64],
     diffs: &mut [i64],
     count: usize,
-    m: Meet,
+    m: Option<PackedTime>,
     places: &mut [u64],
     firsts: &mut [u64],
     seconds: &mut [u64],
@@ -85,12 +73,11 @@ pub fn advance_edits(
     requires { LentBuffer count times.old values.old diffs.old places.old firsts.old seconds.old sums.old }
     ensures { Renewed (advance_edits (optional m) (take count (edits times.old values.old diffs.old))) count (edits times.old values.old diffs.old) (edits times.new values.new diffs.new) result }
 {
-    if let Meet::Present(p) = m {
-        let r = advance_in_place(p, times, values, diffs, count);
-        if r.done {
-            return r.count;
-        }
-        return consolidate_front(times, values, diffs, count, places, firsts, seconds, sums);
+    match m {
+        Some(p) => match advance_in_place(p, times, values, diffs, count) {
+            Some(left) => left,
+            None => consolidate_front(times, values, diffs, count, places, firsts, seconds, sums),
+        },
+        None => count,
     }
-    count
 }

@@ -7,5 +7,5 @@ mod buffer;
 mod few;
 mod put;
 
-pub use buffer::{Advanced, advance_edits, advance_in_place, consolidate_front};
+pub use buffer::{advance_edits, advance_in_place, consolidate_front};
 pub use few::advance_times;

@@ -6,53 +6,33 @@ ghost use Rattle.std.specs.Prelude.{ℕ, ◌≤◌, List, ◌≡◌, length, tak
 ghost use Rattle.form.specs.Read.{parse};
 ghost use Rattle.form.specs.Show.{reply};
 ghost use Rattle.form.proofs.Room.{most_text};
-ghost use Rattle.checks.specs.Checks.{columns};
-ghost use Rattle.demands.specs.Lending.{lent};
-ghost use Rattle.reading.specs.declared.Request.TheVariants.{Asked as IsAsked};
 ghost use Rattle.answering.specs.Replied.{Replied};
-ghost use Rattle.answering.specs.Asking.{bytes_of, Holds, no_memory, Asks};
+ghost use Rattle.answering.specs.Asking.{fronts, run_of, lists_lent, fronts_lent, Holds, Asks};
 
-use reading::{Counts, Request};
+use reading::{BadLine, Counts, Request};
+use requests::{Frontiers, Pending, ResultMemory, Run, WorkMemory};
 use telling::results_of;
-use writing::Text;
 
 // As many bytes as the longest reply has.
 pub const TEXT_SIZE: usize = 559238;
 
-fn bytes_of(t: Text) -> usize
-    ensures { result ≡ bytes_of t }
-{
-    match t {
-        Text::Short => 0,
-        Text::Whole(n) => n,
-    }
+// The lists of a request, lent.
+#[derive(Clone, Copy)]
+struct Lists<'a> {
+    lower: &'a [u64],
+    upper: &'a [u64],
+    held: &'a [u64],
+    old: Run<'a>,
+    new: Run<'a>,
+    out: Run<'a>,
+    pending_keys: &'a [u64],
+    pending_times: &'a [u64],
 }
 
 // Calls retire in memory of its own, and prints what it answers.
-fn call(
-    mode: u64,
-    width: u64,
-    lower: &[u64],
-    upper: &[u64],
-    held: &[u64],
-    old_keys: &[u64],
-    old_values: &[u64],
-    old_times: &[u64],
-    old_diffs: &[i64],
-    new_keys: &[u64],
-    new_values: &[u64],
-    new_times: &[u64],
-    new_diffs: &[i64],
-    out_keys: &[u64],
-    out_values: &[u64],
-    out_times: &[u64],
-    out_diffs: &[i64],
-    pending_keys: &[u64],
-    pending_times: &[u64],
-    out: &mut [u8],
-) -> usize
+fn call(mode: u64, width: u64, lists: Lists, out: &mut [u8]) -> usize
     requires { most_text ≤ length out.old }
-    ensures { (s : List ℕ) → Asks s (lent mode width lower.now upper.now held.now (columns old_keys.now old_values.now old_times.now old_diffs.now) (columns new_keys.now new_values.now new_times.now new_diffs.now) (columns out_keys.now out_values.now out_times.now out_diffs.now) pending_keys.now pending_times.now no_memory) → Replied (reply s) out.old out.new result }
+    ensures { (s : List ℕ) → Asks s (lists_lent mode width lists.entry) → Replied (reply s) out.old out.new result }
 {
     let mut numbers = [0u64; 25632];
     let mut diffs = [0i64; 4096];
@@ -64,160 +44,89 @@ fn call(
     let mut output_times = [0u64; 8192];
     let mut input_diffs = [0i64; 8192];
     let mut output_diffs = [0i64; 8192];
-    let o = retire::retire(
+    let request = requests::Request {
         mode,
         width,
-        lower,
-        upper,
-        held,
-        old_keys,
-        old_values,
-        old_times,
-        old_diffs,
-        new_keys,
-        new_values,
-        new_times,
-        new_diffs,
-        out_keys,
-        out_values,
-        out_times,
-        out_diffs,
-        pending_keys,
-        pending_times,
-        &mut numbers,
-        &mut diffs,
-        &mut moments,
-        &mut input_keys,
-        &mut input_values,
-        &mut input_times,
-        &mut output_values,
-        &mut output_times,
-        &mut input_diffs,
-        &mut output_diffs,
-    );
-    bytes_of(writing::write_answer(out, &numbers, &diffs, results_of(o)))
+        frontiers: Frontiers {
+            lower: lists.lower,
+            upper: lists.upper,
+            held: lists.held,
+        },
+        old: lists.old,
+        new: lists.new,
+        out: lists.out,
+        pending: Pending {
+            keys: lists.pending_keys,
+            times: lists.pending_times,
+        },
+    };
+    let mut results = ResultMemory {
+        numbers: &mut numbers,
+        diffs: &mut diffs,
+    };
+    let mut work = WorkMemory {
+        keys: &mut input_keys,
+        values: &mut input_values,
+        times: &mut input_times,
+        diffs: &mut input_diffs,
+        out_values: &mut output_values,
+        out_times: &mut output_times,
+        out_diffs: &mut output_diffs,
+    };
+    let outcome = retire::retire(&request, &mut results, &mut moments, &mut work);
+    let ResultMemory { numbers, diffs } = results;
+    writing::write_answer(out, numbers, diffs, results_of(outcome)).unwrap_or(0)
 }
 
 // The first n entries, or all if there are fewer.
-fn front<'a>(column: &'a [u64], n: usize) -> &'a [u64]
+fn front<'a, T>(column: &'a [T], n: usize) -> &'a [T]
     ensures { result.now ≡ take n column.now }
 {
-    if n <= column.len() {
-        return &column[0..n];
+    column.get(..n).unwrap_or(column)
+}
+
+// The first n entries of each column.
+fn front_run<'a>(run: Run<'a>, n: usize) -> Run<'a>
+    ensures { run_of result ≡ fronts n (run_of run.entry) }
+{
+    Run {
+        keys: front(run.keys, n),
+        values: front(run.values, n),
+        times: front(run.times, n),
+        diffs: front(run.diffs, n),
     }
-    column
 }
 
-fn front_diffs<'a>(column: &'a [i64], n: usize) -> &'a [i64]
-    ensures { result.now ≡ take n column.now }
+// As many entries of each list as the counts say.
+fn front_lists<'a>(lists: Lists<'a>, n: Counts) -> Lists<'a>
+    ensures { (mode width : ℕ) → lists_lent mode width result ≡ fronts_lent mode width n lists.entry }
 {
-    if n <= column.len() {
-        return &column[0..n];
+    Lists {
+        lower: front(lists.lower, n.lower),
+        upper: front(lists.upper, n.upper),
+        held: front(lists.held, n.held),
+        old: front_run(lists.old, n.old),
+        new: front_run(lists.new, n.new),
+        out: front_run(lists.out, n.out),
+        pending_keys: front(lists.pending_keys, n.pending),
+        pending_times: front(lists.pending_times, n.pending),
     }
-    column
 }
 
-// Lends a call the parts of the columns that the request fills.
-fn ask(
-    mode: u64,
-    width: u64,
-    n: Counts,
-    lower: &[u64],
-    upper: &[u64],
-    held: &[u64],
-    old_keys: &[u64],
-    old_values: &[u64],
-    old_times: &[u64],
-    old_diffs: &[i64],
-    new_keys: &[u64],
-    new_values: &[u64],
-    new_times: &[u64],
-    new_diffs: &[i64],
-    out_keys: &[u64],
-    out_values: &[u64],
-    out_times: &[u64],
-    out_diffs: &[i64],
-    pending_keys: &[u64],
-    pending_times: &[u64],
-    out: &mut [u8],
-) -> usize
+// Prints a bad line's number, or lends a call the parts of the columns that the request fills.
+fn reply_to(asked: Result<Request, BadLine>, lists: Lists, out: &mut [u8]) -> usize
     requires { most_text ≤ length out.old }
-    ensures { (s : List ℕ) → Holds (parse s) (IsAsked mode width n) lower.now upper.now held.now (columns old_keys.now old_values.now old_times.now old_diffs.now) (columns new_keys.now new_values.now new_times.now new_diffs.now) (columns out_keys.now out_values.now out_times.now out_diffs.now) pending_keys.now pending_times.now → Replied (reply s) out.old out.new result }
+    ensures { (s : List ℕ) → Holds (parse s) asked lists.entry → Replied (reply s) out.old out.new result }
 {
-    call(
-        mode,
-        width,
-        front(lower, n.lower),
-        front(upper, n.upper),
-        front(held, n.held),
-        front(old_keys, n.old),
-        front(old_values, n.old),
-        front(old_times, n.old),
-        front_diffs(old_diffs, n.old),
-        front(new_keys, n.new),
-        front(new_values, n.new),
-        front(new_times, n.new),
-        front_diffs(new_diffs, n.new),
-        front(out_keys, n.out),
-        front(out_values, n.out),
-        front(out_times, n.out),
-        front_diffs(out_diffs, n.out),
-        front(pending_keys, n.pending),
-        front(pending_times, n.pending),
-        out,
-    )
-}
-
-// Prints a bad line's number, or asks.
-fn reply_to(
-    r: Request,
-    lower: &[u64],
-    upper: &[u64],
-    held: &[u64],
-    old_keys: &[u64],
-    old_values: &[u64],
-    old_times: &[u64],
-    old_diffs: &[i64],
-    new_keys: &[u64],
-    new_values: &[u64],
-    new_times: &[u64],
-    new_diffs: &[i64],
-    out_keys: &[u64],
-    out_values: &[u64],
-    out_times: &[u64],
-    out_diffs: &[i64],
-    pending_keys: &[u64],
-    pending_times: &[u64],
-    out: &mut [u8],
-) -> usize
-    requires { most_text ≤ length out.old }
-    ensures { (s : List ℕ) → Holds (parse s) r lower.now upper.now held.now (columns old_keys.now old_values.now old_times.now old_diffs.now) (columns new_keys.now new_values.now new_times.now new_diffs.now) (columns out_keys.now out_values.now out_times.now out_diffs.now) pending_keys.now pending_times.now → Replied (reply s) out.old out.new result }
-{
-    match r {
-        Request::Bad(line) => bytes_of(writing::write_bad(out, line)),
-        Request::Asked(mode, width, n) => ask(
-            mode,
-            width,
-            n,
-            lower,
-            upper,
-            held,
-            old_keys,
-            old_values,
-            old_times,
-            old_diffs,
-            new_keys,
-            new_values,
-            new_times,
-            new_diffs,
-            out_keys,
-            out_values,
-            out_times,
-            out_diffs,
-            pending_keys,
-            pending_times,
-            out,
-        ),
+    match asked {
+        Err(BadLine(line)) => writing::write_bad(out, line).unwrap_or(0),
+        Ok(
+            Request {
+                mode,
+                width,
+                counts,
+            },
+        ) => call(mode, width, front_lists(lists, counts), out),
     }
 }
 
@@ -243,7 +152,7 @@ pub fn answer(request: &[u8], out: &mut [u8]) -> usize
     let mut out_diffs = [0i64; 512];
     let mut pending_keys = [0u64; 512];
     let mut pending_times = [0u64; 512];
-    let r = reading::read_request(
+    let asked = reading::read_request(
         request,
         &mut lower,
         &mut upper,
@@ -263,25 +172,33 @@ pub fn answer(request: &[u8], out: &mut [u8]) -> usize
         &mut pending_keys,
         &mut pending_times,
     );
-    reply_to(
-        r,
-        &lower,
-        &upper,
-        &held,
-        &old_keys,
-        &old_values,
-        &old_times,
-        &old_diffs,
-        &new_keys,
-        &new_values,
-        &new_times,
-        &new_diffs,
-        &out_keys,
-        &out_values,
-        &out_times,
-        &out_diffs,
-        &pending_keys,
-        &pending_times,
-        out,
-    )
+    let old = Run {
+        keys: &old_keys,
+        values: &old_values,
+        times: &old_times,
+        diffs: &old_diffs,
+    };
+    let new = Run {
+        keys: &new_keys,
+        values: &new_values,
+        times: &new_times,
+        diffs: &new_diffs,
+    };
+    let output = Run {
+        keys: &out_keys,
+        values: &out_values,
+        times: &out_times,
+        diffs: &out_diffs,
+    };
+    let lists = Lists {
+        lower: &lower,
+        upper: &upper,
+        held: &held,
+        old,
+        new,
+        out: output,
+        pending_keys: &pending_keys,
+        pending_times: &pending_times,
+    };
+    reply_to(asked, lists, out)
 }

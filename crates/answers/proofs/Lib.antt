@@ -1,1 +1,2 @@
 pub mod Telling
+pub mod Frontier

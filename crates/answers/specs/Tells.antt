@@ -8,12 +8,13 @@ use Rattle.grid.specs.Frontiers.{most_times, minimal}
 use Rattle.grid.specs.Records.{Row, most_records, pairs}
 use Rattle.rules.specs.Call.{Request, Answer, refused, quiet_answer}
 use Rattle.rules.specs.Memory.{numbers_size}
+use Rattle.requests.specs.Statuses.{number_of}
 use Rattle.results.specs.Told.{Told, published}
 use Rattle.answers.specs.declared.Outcome.{Outcome}
 use Rattle.answers.specs.declared.Course.{Course}
 
 pub record Tells (a : Answer) (r : Outcome) (res res' : List ℕ) (rd rd' : List ℤ) : Type 0 where
-  pub status_is : r.status ≡ a.status
+  pub status_is : number_of r.status ≡ a.status
   pub crossings_are : r.crossings ≡ a.crossings
   pub tiles-many : r.tiles ≡ length a.tiles
   pub fixes-many : r.fixes ≡ length a.fixes

@@ -5,12 +5,13 @@ mod others;
 mod worked;
 
 pub use others::{say_nothing, say_quiet};
+use requests::Status;
 pub use worked::conclude;
 
 // What a call says beside what it writes.
 #[derive(Clone, Copy)]
 pub struct Outcome {
-    pub status: u64,
+    pub status: Status,
     pub crossings: u64,
     pub tiles: usize,
     pub fixes: usize,

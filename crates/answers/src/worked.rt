@@ -1,42 +1,35 @@
 // "18 over all keys before 19": the answer of a call whose windows are done.
 ghost use Rattle.std.specs.Prelude.{length, take};
 ghost use Rattle.grid.specs.Records.{rows, pairs};
+ghost use Rattle.requests.specs.Memory.{SameResults};
 ghost use Rattle.results.specs.Told.{Ready, published};
 ghost use Rattle.answers.specs.Tells.{Tells, Concludes, concluded};
 
 use crate::others::say_nothing;
 use crate::{Course, Outcome};
-use results::{next_frontier, publish};
-use times::MOST_TIMES;
+use requests::{Frontiers, Pending, ResultMemory, Run, Status};
+use results::{Scratch, publish};
+use times::minimal_times;
 
 // Writes the answer of a call that worked.
 fn say_worked(
-    lower: &[u64],
-    upper: &[u64],
-    held: &[u64],
-    keys: &[u64],
-    values: &[u64],
-    times: &[u64],
-    diffs: &[i64],
-    pendkeys: &[u64],
-    pendtimes: &[u64],
+    f: &Frontiers<'_>,
+    fixes: &Run<'_>,
+    pending: &Pending<'_>,
     frontier: &[u64],
     c: Course,
-    out: &mut [u64],
-    places: &mut [u64],
-    work: &mut [u64],
-    res: &mut [u64],
-    rd: &mut [i64],
+    scratch: Scratch<'_>,
+    results: &mut ResultMemory<'_>,
 ) -> Outcome
-    requires { Ready keys.now values.now times.now diffs.now c.fixes pendkeys.now pendtimes.now c.pended frontier.now lower.now upper.now held.now out.old places.old work.old res.old rd.old }
-    ensures { Tells (published c.crossings lower.now upper.now held.now (rows (take c.fixes keys.now) (take c.fixes values.now) (take c.fixes times.now) (take c.fixes diffs.now)) (pairs (take c.pended pendkeys.now) (take c.pended pendtimes.now)) frontier.now) result res.old res.new rd.old rd.new }
+    requires { Ready fixes.now.keys.now fixes.now.values.now fixes.now.times.now fixes.now.diffs.now c.fixes pending.now.keys.now pending.now.times.now c.pended frontier.now f.now.lower.now f.now.upper.now f.now.held.now scratch.tiles.now scratch.places.now scratch.work.now results.old.numbers.now results.old.diffs.now }
+    ensures tells { Tells (published c.crossings f.now.lower.now f.now.upper.now f.now.held.now (rows (take c.fixes fixes.now.keys.now) (take c.fixes fixes.now.values.now) (take c.fixes fixes.now.times.now) (take c.fixes fixes.now.diffs.now)) (pairs (take c.pended pending.now.keys.now) (take c.pended pending.now.times.now)) frontier.now) result results.old.numbers.now results.new.numbers.now results.old.diffs.now results.new.diffs.now }
+    ensures same { SameResults results.old results.new }
 {
     let n = publish(
-        keys, values, times, diffs, c.fixes, pendkeys, pendtimes, c.pended, frontier, lower, upper,
-        held, out, places, work, res, rd,
+        fixes, c.fixes, pending, c.pended, frontier, f, scratch, results,
     );
     Outcome {
-        status: 0,
+        status: Status::Done,
         crossings: c.crossings,
         tiles: n.tiles,
         fixes: n.fixes,
@@ -45,55 +38,28 @@ fn say_worked(
     }
 }
 
-// The answer of a call whose windows are done. The scratch (out, places, work) means nothing afterwards.
+// The answer of a call whose windows are done. The scratch means nothing afterwards.
 pub fn conclude(
-    lower: &[u64],
-    upper: &[u64],
-    held: &[u64],
-    keys: &[u64],
-    values: &[u64],
-    times: &[u64],
-    diffs: &[i64],
-    pendkeys: &[u64],
-    pendtimes: &[u64],
+    f: &Frontiers<'_>,
+    fixes: &Run<'_>,
+    pending: &Pending<'_>,
     c: Course,
-    out: &mut [u64],
-    places: &mut [u64],
-    work: &mut [u64],
-    res: &mut [u64],
-    rd: &mut [i64],
+    scratch: Scratch<'_>,
+    results: &mut ResultMemory<'_>,
 ) -> Outcome
-    requires { Concludes (length keys.now) c lower.now upper.now held.now keys.now values.now times.now diffs.now pendkeys.now pendtimes.now out.old places.old work.old res.old rd.old }
-    ensures { Tells (concluded c lower.now upper.now held.now (rows (take c.fixes keys.now) (take c.fixes values.now) (take c.fixes times.now) (take c.fixes diffs.now)) (pairs (take c.pended pendkeys.now) (take c.pended pendtimes.now))) result res.old res.new rd.old rd.new }
+    requires { Concludes (length fixes.now.keys.now) c f.now.lower.now f.now.upper.now f.now.held.now fixes.now.keys.now fixes.now.values.now fixes.now.times.now fixes.now.diffs.now pending.now.keys.now pending.now.times.now scratch.tiles.now scratch.places.now scratch.work.now results.old.numbers.now results.old.diffs.now }
+    ensures tells { Tells (concluded c f.now.lower.now f.now.upper.now f.now.held.now (rows (take c.fixes fixes.now.keys.now) (take c.fixes fixes.now.values.now) (take c.fixes fixes.now.times.now) (take c.fixes fixes.now.diffs.now)) (pairs (take c.pended pending.now.keys.now) (take c.pended pending.now.times.now))) result results.old.numbers.now results.new.numbers.now results.old.diffs.now results.new.diffs.now }
+    ensures same { SameResults results.old results.new }
 {
     if c.over {
-        return say_nothing(18, res, rd);
+        return say_nothing(Status::OverLimit, results);
     }
-    let m = c.pended;
     let mut frontier = [0u64; 16];
-    let f = next_frontier(&pendtimes[0..m], &mut frontier);
-    if f > MOST_TIMES {
-        return say_nothing(18, res, rd);
-    }
+    let Some(n) = minimal_times(&pending.times[..c.pended], &mut frontier) else {
+        return say_nothing(Status::OverLimit, results);
+    };
     if c.large {
-        return say_nothing(19, res, rd);
+        return say_nothing(Status::TooLarge, results);
     }
-    say_worked(
-        lower,
-        upper,
-        held,
-        keys,
-        values,
-        times,
-        diffs,
-        pendkeys,
-        pendtimes,
-        &frontier[0..f],
-        c,
-        out,
-        places,
-        work,
-        res,
-        rd,
-    )
+    say_worked(f, fixes, pending, &frontier[..n], c, scratch, results)
 }

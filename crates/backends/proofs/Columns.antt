@@ -1,17 +1,20 @@
 -- Laws of columns, and the loop that appends to one.
 --
 -- less: two lengths are equal, where both lists have an element
--- length-entries, get_or-entries, values_entries: of two columns of one length
+-- length-entries, get_or-entries, values_entries, diffs_entries: of two columns of one length
 -- Writing before at goal xs k rest: of `goal`, to be appended at `at`, `rest` is still to be written, from k on
 -- writing_start, writing_more, writing_append, writing_is, writing_end: one entry written, many, none, all
+-- column_put: a column that is written in one part
 -- Filling, filling-*: the same of a column of values and one of diffs
-use Prim.Native.Nat.{ℕ, zero, suc, ◌+◌, ◌<◌}
+use Prim.Native.Nat.{ℕ, zero, suc, ◌+◌, ◌<◌, ◌≤◌}
 use native.Mathlib.Omega.{arith}
 use mathlib.Core.Path.{◌≡◌, refl, sym, ◌∙◌, ap, subst}
 use mathlib.Core.List.{List, [], ◌∷◌, ◌++◌, append-nil, append_assoc}
 use lib.IntN.{ℤ, pos}
 use lib.ListN.{length, take, drop, get_or, set, length-set, length-append}
 use lib.Seq.{drop-drop}
+use borrow.Rule.Slice.PartMut.{put_mid}
+use Rattle.std.proofs.lemmas.Slice.{take-put_mid, drop-put_mid}
 use Rattle.grid.proofs.Lists.{All, nil, cons}
 use Rattle.grid.proofs.Loops.{put_more, ahead_set}
 use Rattle.grid.proofs.Operations.{no_length}
@@ -40,6 +43,13 @@ unfolding entries
 values_entries [] ds e = refl
 values_entries (v ∷ vs) [] e = no_length (length vs) (sym e)
 values_entries (v ∷ vs) (d ∷ ds) e = ap (λ l. v ∷ l) (values_entries vs ds (less e))
+
+pub diffs_entries : (vs : List ℕ) (ds : List ℤ) → length ds ≡ length vs → diffs_of (entries vs ds) ≡ ds
+unfolding entries
+diffs_entries [] [] e = refl
+diffs_entries [] (d ∷ ds) e = no_length (length ds) e
+diffs_entries (v ∷ vs) [] e = no_length (length vs) (sym e)
+diffs_entries (v ∷ vs) (d ∷ ds) e = ap (λ l. d ∷ l) (diffs_entries vs ds (less e))
 
 module _ {A : Type 0} {P : A → Type 0} where
   pub all_take : (n : ℕ) {l : List A} → All P l → All P (take n l)
@@ -91,13 +101,19 @@ module _ {A : Type 0} {before : List A} {at : ℕ} {goal : List A} {xs : List A}
     past = w.past;
   }
 
+pub column_put : {A : Type 0} {before new held : List A} {at k r : ℕ} → held ≡ new → length new ≡ k → at + k ≤ length before → r ≡ at + k → Column before at new (put_mid at k before held) r
+column_put {before = before} {new} {held} {at} {k} {r} e l h q =
+    rw e
+    (record {
+      end = omega arith;
+      front = take-put_mid at k before new r (omega arith) (omega arith);
+      past = drop-put_mid at k before new r (omega arith) (omega arith) l;
+    })
+
 -- ---- a column of values and one of diffs
 pub record Filling (vs₀ : List ℕ) (ds₀ : List ℤ) (at : ℕ) (goal : Sums) (vs : List ℕ) (ds : List ℤ) (k : ℕ) (rest : Sums) : Type 0 where
   pub values : Writing vs₀ at (values_of goal) vs k (values_of rest)
   pub diffs : Writing ds₀ at (diffs_of goal) ds k (diffs_of rest)
-
-pub filling_start : (vs : List ℕ) (ds : List ℤ) (at : ℕ) (goal : Sums) → Filling vs ds at goal vs ds at goal
-filling_start vs ds at goal = record { values = writing_start vs at (values_of goal); diffs = writing_start ds at (diffs_of goal) }
 
 module _ {vs₀ : List ℕ} {ds₀ : List ℤ} {at : ℕ} {goal : Sums} {vs : List ℕ} {ds : List ℤ} {k : ℕ} {rest : Sums} (w : Filling vs₀ ds₀ at goal vs ds k rest) where
   pub filling_is : {rest' : Sums} → rest ≡ rest' → Filling vs₀ ds₀ at goal vs ds k rest'

@@ -1,8 +1,8 @@
 -- The walk that appends what distinct wants of a summed input, minus a summed output.
 --
 -- Differing: the entries before i of the input and before j of the output are dealt with, and what they give stands before k
--- differing_start, take_left, take_right, take_both, take_neither, pass_over, differing_end: the walk keeps that
--- here_v, here_d, in-*: the places that a turn reads and writes. diff_small, stored_neg, stored_less: the numbers that it makes
+-- take_left, take_right, take_both, take_neither, pass_over, differing_end: the walk keeps that
+-- here_v, here_d, in-*: the places that a turn reads and writes. neg_fits, neg_stored, one_fits, one_stored: the numbers that it makes. one_other, one_zero: the test of one for zero
 use Prim.Native.Nat.{ℕ, ◌+◌, ◌-◌, ◌<◌, ◌≤◌, ◌^◌}
 use native.Mathlib.Omega.{arith}
 use native.Mathlib.Numerals.{add-one}
@@ -10,22 +10,25 @@ use mathlib.Core.Bool.{true, false}
 use mathlib.Core.Path.{◌≡◌, sym, ◌∙◌, ap, subst}
 use mathlib.Core.List.{List, [], ◌∷◌}
 use lib.Dec.{ltb}
-use lib.IntN.{ℤ, pos, ◌+ℤ◌, neg_ℤ, nat_abs}
-use lib.Signed.{mag}
+use lib.IntN.{ℤ, pos, ◌+ℤ◌, ◌-ℤ◌, neg_ℤ, nat_abs, +ℤ_idl}
 use lib.ListN.{length, drop, get_or, set, drop_of_length-le}
 use mir.Syntax.{w64}
-use mir.Val.{to_z, of_z}
+use mir.Val.{to_z, of_z, SFits}
+use mir.Facts.{to_z-of_z}
+use borrow.Author.Tests.{eq-eqb, ne_eqb}
+use Rattle.grid.proofs.Signed.{zero_test}
 use Rattle.grid.specs.Consolidate.{is_zero, unless_zero}
 use Rattle.grid.proofs.Loops.{all_get_d}
 use Rattle.grid.proofs.Consolidate.{Canon}
 use Rattle.rules.specs.Backends.{Sums, distinct, minus}
 use Rattle.diffs.specs.Diffs.{modest}
+use Rattle.backends.specs.declared.correction.Turn.{Turn}
+use Rattle.backends.specs.declared.correction.Turn.TheVariants.{Input, Output, Both, Unlisted}
 use Rattle.backends.specs.Columns.{entries, values_of, Appended}
 use Rattle.backends.specs.Correct.{distinct_minus, turn, Ready}
-use Rattle.grid.proofs.Signed.{back}
 use Rattle.grid.proofs.Operations.{map-drop}
-use Rattle.diffs.proofs.Signed.{in_local}
-use Rattle.backends.proofs.Columns.{length-entries, values_entries, Filling, filling_start, filling_is, filling_more, filling_end}
+use Rattle.diffs.proofs.Signed.{less_fits, less_is}
+use Rattle.backends.proofs.Columns.{length-entries, values_entries, Filling, filling_is, filling_more, filling_end}
 use Rattle.backends.proofs.Turns.{canon_drop, left_step, right_step, both_step, pass_step, input_more, turn_in, turn_out}
 
 module _ (iv : List ℕ) (id : List ℤ) (ov : List ℕ) (od : List ℤ) where
@@ -39,15 +42,6 @@ pub record Differing (iv : List ℕ) (id : List ℤ) (ov : List ℕ) (od : List 
   pub jb : j ≤ length ov
   pub room : k + (length iv - i) + (length ov - j) ≤ length cv₀
   pub done : Filling cv₀ cd₀ at (left iv id ov od 0 0) cv cd k (left iv id ov od i j)
-
-pub differing_start : {iv : List ℕ} {id : List ℤ} {ov : List ℕ} {od : List ℤ} {cv : List ℕ} {cd : List ℤ} {at : ℕ} → Ready iv id ov od cv cd at → Differing iv id ov od at cv cd cv cd 0 0 at
-differing_start {iv} {id} {ov} {od} {cv} {cd} {at} r = record {
-  asks = r;
-  ia = omega arith;
-  jb = omega arith;
-  room = omega arith;
-  done = filling_start cv cd at (left iv id ov od 0 0);
-}
 
 module _ {iv : List ℕ} {id : List ℤ} {ov : List ℕ} {od : List ℤ} {at : ℕ} {cv₀ : List ℕ} {cd₀ : List ℤ} {cv : List ℕ} {cd : List ℤ} {i j k : ℕ} (m : Differing iv id ov od at cv₀ cd₀ cv cd i j k) where
   same_i : length id ≡ length iv
@@ -71,10 +65,10 @@ module _ {iv : List ℕ} {id : List ℤ} {ov : List ℕ} {od : List ℤ} {at : �
   canon_out : Canon ltb (drop j (entries ov od))
   canon_out = canon_drop j m.asks.canon_o
 
-  abbrev Turn : ℕ → Type 0
-  Turn n = turn (drop i (entries iv id)) (drop j ov) ≡ n
+  abbrev Taken : Turn → Type 0
+  Taken n = turn (drop i (entries iv id)) (drop j ov) ≡ n
 
-  told : {n : ℕ} → Turn n → turn (drop i (entries iv id)) (values_of (drop j (entries ov od))) ≡ n
+  told : {n : Turn} → Taken n → turn (drop i (entries iv id)) (values_of (drop j (entries ov od))) ≡ n
   told e = ap (turn (drop i (entries iv id))) values_here ∙ e
 
   pub here_v : i + j < length iv + length ov → k < length cv
@@ -93,39 +87,45 @@ module _ {iv : List ℕ} {id : List ℤ} {ov : List ℕ} {od : List ℤ} {at : �
       let u : length cd₀ ≡ length cv₀ = m.asks.same_c in
       omega arith
 
-  pub in_left : Turn 0 → i < length iv
-  in_left e = turn_in iv id i ov j same_i 0 e (λ z. omega arith)
+  pub in_left : Taken Input → i < length iv
+  in_left e = turn_in iv id i ov j same_i Input e (λ z. cc)
 
-  pub in_right : i + j < length iv + length ov → Turn 1 → (j < length ov) × (j < length od)
+  pub in_right : i + j < length iv + length ov → Taken Output → (j < length ov) × (j < length od)
   in_right h e =
       let s : length od ≡ length ov = same_o in
-      let q : j < length ov = turn_out iv id i ov j same_i 1 e (λ z. omega arith) (λ z. omega arith) h m.ia in
+      let q : j < length ov = turn_out iv id i ov j same_i Output e (λ z. cc) (λ z. cc) h m.ia in
       (q, omega arith)
 
-  pub in_both : i + j < length iv + length ov → Turn 2 → (i < length iv) × ((j < length ov) × (j < length od))
+  pub in_both : i + j < length iv + length ov → Taken Both → (i < length iv) × ((j < length ov) × (j < length od))
   in_both h e =
       let s : length od ≡ length ov = same_o in
-      let q : j < length ov = turn_out iv id i ov j same_i 2 e (λ z. omega arith) (λ z. omega arith) h m.ia in
-      (turn_in iv id i ov j same_i 2 e (λ z. omega arith), (q, omega arith))
+      let q : j < length ov = turn_out iv id i ov j same_i Both e (λ z. cc) (λ z. cc) h m.ia in
+      (turn_in iv id i ov j same_i Both e (λ z. cc), (q, omega arith))
 
-  pub in_pass : Turn 3 → i < length iv
-  in_pass e = turn_in iv id i ov j same_i 3 e (λ z. omega arith)
+  pub in_pass : Taken Unlisted → i < length iv
+  in_pass e = turn_in iv id i ov j same_i Unlisted e (λ z. cc)
 
   module _ (h : j < length od) where
-    diff-modest : nat_abs (get_or od j (pos 0)) ≤ 2 ^ 48
-    diff-modest = all_get_d {P = modest} od j (pos 0) m.asks.small_o h
+    diff_small : nat_abs (get_or od j (pos 0)) ≤ 2 ^ 62
+    diff_small = let a : nat_abs (get_or od j (pos 0)) ≤ 2 ^ 48 = all_get_d {P = modest} od j (pos 0) m.asks.small_o h in omega arith
 
-    diff_local : to_z w64 (of_z w64 (get_or od j (pos 0))) ≡ get_or od j (pos 0)
-    diff_local = in_local (get_or od j (pos 0)) (let b : nat_abs (get_or od j (pos 0)) ≤ 2 ^ 48 = diff-modest in omega arith)
+    pub neg_fits : SFits w64 (pos 0 -ℤ to_z w64 (of_z w64 (get_or od j (pos 0))))
+    neg_fits = less_fits 0 (get_or od j (pos 0)) (omega arith) diff_small
 
-    pub diff_small : modest (to_z w64 (of_z w64 (get_or od j (pos 0))))
-    diff_small = rw diff_local diff-modest
+    pub neg_stored : to_z w64 (of_z w64 (pos 0 -ℤ to_z w64 (of_z w64 (get_or od j (pos 0))))) ≡ neg_ℤ (get_or od j (pos 0))
+    neg_stored = less_is 0 (get_or od j (pos 0)) (omega arith) diff_small ∙ +ℤ_idl (neg_ℤ (get_or od j (pos 0)))
 
-    pub stored_neg : {R : ℤ} → mag R < 2 ^ 63 → R ≡ neg_ℤ (to_z w64 (of_z w64 (get_or od j (pos 0)))) → to_z w64 (of_z w64 R) ≡ neg_ℤ (get_or od j (pos 0))
-    stored_neg b e = back b ∙ e ∙ ap neg_ℤ diff_local
+    pub one_fits : SFits w64 (pos 1 -ℤ to_z w64 (of_z w64 (get_or od j (pos 0))))
+    one_fits = less_fits 1 (get_or od j (pos 0)) (omega arith) diff_small
 
-    pub stored_less : {R : ℤ} → mag R < 2 ^ 63 → R ≡ pos 1 +ℤ neg_ℤ (to_z w64 (of_z w64 (get_or od j (pos 0)))) → to_z w64 (of_z w64 R) ≡ pos 1 +ℤ neg_ℤ (get_or od j (pos 0))
-    stored_less b e = back b ∙ e ∙ ap (λ z. pos 1 +ℤ neg_ℤ z) diff_local
+    pub one_stored : to_z w64 (of_z w64 (pos 1 -ℤ to_z w64 (of_z w64 (get_or od j (pos 0))))) ≡ pos 1 +ℤ neg_ℤ (get_or od j (pos 0))
+    one_stored = less_is 1 (get_or od j (pos 0)) (omega arith) diff_small
+
+    pub one_other : (of_z w64 (pos 1 -ℤ to_z w64 (of_z w64 (get_or od j (pos 0)))) ≡ 0 → ⊥) → is_zero (to_z w64 (of_z w64 (pos 1 -ℤ to_z w64 (of_z w64 (get_or od j (pos 0)))))) ≡ false
+    one_other n = ap is_zero (to_z-of_z one_fits) ∙ sym (zero_test _ one_fits) ∙ ne_eqb _ 0 n
+
+    pub one_zero : of_z w64 (pos 1 -ℤ to_z w64 (of_z w64 (get_or od j (pos 0)))) ≡ 0 → is_zero (to_z w64 (of_z w64 (pos 1 -ℤ to_z w64 (of_z w64 (get_or od j (pos 0)))))) ≡ true
+    one_zero e = ap is_zero (to_z-of_z one_fits) ∙ sym (zero_test _ one_fits) ∙ eq-eqb _ 0 e
 
   -- a turn that writes (v, d), and one that writes nothing
   write : (i' j' : ℕ) (v : ℕ) (d : ℤ) → i + j < length iv + length ov → i' ≤ length iv → j' ≤ length ov → i + j < i' + j' → i ≤ i' → j ≤ j'
@@ -139,7 +139,7 @@ module _ {iv : List ℕ} {id : List ℤ} {ov : List ℕ} {od : List ℤ} {at : �
       let r : k + (length iv - i) + (length ov - j) ≤ length cv₀ = m.room in
       record { asks = m.asks; ia = a; jb = b; room = omega arith; done = filling_is m.done e }
 
-  pub take_left : i + j < length iv + length ov → Turn 0 → Differing iv id ov od at cv₀ cd₀ (set cv k (get_or iv i 0)) (set cd k (pos 1)) (i + 1) j (k + 1)
+  pub take_left : i + j < length iv + length ov → Taken Input → Differing iv id ov od at cv₀ cd₀ (set cv k (get_or iv i 0)) (set cd k (pos 1)) (i + 1) j (k + 1)
   take_left h e =
       let g = in_left e in
       let q = in_more g in
@@ -148,7 +148,7 @@ module _ {iv : List ℕ} {id : List ℤ} {ov : List ℕ} {od : List ℤ} {at : �
       ∙ left_step (get_or iv i 0, get_or id i (pos 0)) (drop (i + 1) (entries iv id)) (drop j (entries ov od)) (subst (Canon ltb) q canon_in) canon_out
       (ap (λ l. turn l (values_of (drop j (entries ov od)))) (sym q) ∙ told e))
 
-  pub take_right : (d : ℤ) → d ≡ neg_ℤ (get_or od j (pos 0)) → i + j < length iv + length ov → Turn 1 → Differing iv id ov od at cv₀ cd₀ (set cv k (get_or ov j 0)) (set cd k d) i (j + 1) (k + 1)
+  pub take_right : (d : ℤ) → d ≡ neg_ℤ (get_or od j (pos 0)) → i + j < length iv + length ov → Taken Output → Differing iv id ov od at cv₀ cd₀ (set cv k (get_or ov j 0)) (set cd k d) i (j + 1) (k + 1)
   take_right d z h e =
       let g = (in_right h e).0 in
       let q = out_more g in
@@ -158,7 +158,7 @@ module _ {iv : List ℕ} {id : List ℤ} {ov : List ℕ} {od : List ℤ} {at : �
       (ap (λ l. turn (drop i (entries iv id)) (values_of l)) (sym q) ∙ told e)
       ∙ ap (λ y. (get_or ov j 0, y) ∷ left iv id ov od i (j + 1)) (sym z))
 
-  both_is : (d : ℤ) → d ≡ pos 1 +ℤ neg_ℤ (get_or od j (pos 0)) → i + j < length iv + length ov → Turn 2 → left iv id ov od i j ≡ unless_zero (get_or iv i 0) d (left iv id ov od (i + 1) (j + 1))
+  both_is : (d : ℤ) → d ≡ pos 1 +ℤ neg_ℤ (get_or od j (pos 0)) → i + j < length iv + length ov → Taken Both → left iv id ov od i j ≡ unless_zero (get_or iv i 0) d (left iv id ov od (i + 1) (j + 1))
   both_is d z h e =
       let p = in_more (in_both h e).0 in
       let q = out_more (in_both h e).1.0 in
@@ -169,20 +169,20 @@ module _ {iv : List ℕ} {id : List ℤ} {ov : List ℕ} {od : List ℤ} {at : �
       ((λ t. turn (p' t) (values_of (q' t))) ∙ told e)
       ∙ ap (λ y. unless_zero (get_or iv i 0) y (left iv id ov od (i + 1) (j + 1))) (sym z)
 
-  pub take_both : (d : ℤ) → d ≡ pos 1 +ℤ neg_ℤ (get_or od j (pos 0)) → is_zero d ≡ false → i + j < length iv + length ov → Turn 2
+  pub take_both : (d : ℤ) → d ≡ pos 1 +ℤ neg_ℤ (get_or od j (pos 0)) → is_zero d ≡ false → i + j < length iv + length ov → Taken Both
       → Differing iv id ov od at cv₀ cd₀ (set cv k (get_or iv i 0)) (set cd k d) (i + 1) (j + 1) (k + 1)
   take_both d z n h e =
       let g : i < length iv = (in_both h e).0 in
       let g' : j < length ov = (in_both h e).1.0 in
       write (i + 1) (j + 1) (get_or iv i 0) d h (omega arith) (omega arith) (omega arith) (omega arith) (omega arith) (both_is d z h e ∙ rw n)
 
-  pub take_neither : (d : ℤ) → d ≡ pos 1 +ℤ neg_ℤ (get_or od j (pos 0)) → is_zero d ≡ true → i + j < length iv + length ov → Turn 2 → Differing iv id ov od at cv₀ cd₀ cv cd (i + 1) (j + 1) k
+  pub take_neither : (d : ℤ) → d ≡ pos 1 +ℤ neg_ℤ (get_or od j (pos 0)) → is_zero d ≡ true → i + j < length iv + length ov → Taken Both → Differing iv id ov od at cv₀ cd₀ cv cd (i + 1) (j + 1) k
   take_neither d z n h e =
       let g : i < length iv = (in_both h e).0 in
       let g' : j < length ov = (in_both h e).1.0 in
       skip (i + 1) (j + 1) (omega arith) (omega arith) (omega arith) (omega arith) (both_is d z h e ∙ rw n)
 
-  pub pass_over : Turn 3 → Differing iv id ov od at cv₀ cd₀ cv cd (i + 1) j k
+  pub pass_over : Taken Unlisted → Differing iv id ov od at cv₀ cd₀ cv cd (i + 1) j k
   pass_over e =
       let g = in_pass e in
       let q = in_more g in

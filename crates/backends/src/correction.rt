@@ -5,30 +5,36 @@ ghost use Rattle.backends.specs.Columns.{entries, Appended};
 ghost use Rattle.backends.specs.Correct.{distinct_minus, turn, Ready, Segment};
 
 use crate::listed::is_listed;
-use diffs::{count_id, is_zero, negated, one_less, total};
+use diffs::{count_id, total};
+use std::cmp::Ordering;
 
-// Which of the two least entries the walk takes: 0 the input's, 1 the output's, 2 both, 3 the input's, which is not listed.
-fn which(iv: &[u64], id: &[i64], i: usize, ov: &[u64], j: usize) -> u64
+// Which of the two least entries the walk takes: the input's, the output's, both, or the input's, which is not listed.
+#[derive(Clone, Copy)]
+enum Turn {
+    Input,
+    Output,
+    Both,
+    Unlisted,
+}
+
+// Which turn the walk takes, where it has come to i in the input and to j in the output.
+fn which(iv: &[u64], id: &[i64], i: usize, ov: &[u64], j: usize) -> Turn
     requires { length id.now ≡ length iv.now }
     ensures { result ≡ turn (drop i (entries iv.now id.now)) (drop j ov.now) }
 {
     if i >= iv.len() {
-        return 1;
+        Turn::Output
+    } else if !is_listed(id[i]) {
+        Turn::Unlisted
+    } else if j >= ov.len() {
+        Turn::Input
+    } else {
+        match iv[i].cmp(&ov[j]) {
+            Ordering::Less => Turn::Input,
+            Ordering::Greater => Turn::Output,
+            Ordering::Equal => Turn::Both,
+        }
     }
-    let s = id[i];
-    if !is_listed(s) {
-        return 3;
-    }
-    if j >= ov.len() {
-        return 0;
-    }
-    if iv[i] < ov[j] {
-        return 0;
-    }
-    if ov[j] < iv[i] {
-        return 1;
-    }
-    2
 }
 
 // Appends at `at` the listed values of the input, each once, minus the output.
@@ -44,40 +50,35 @@ fn differ(
     requires { Ready iv.now id.now ov.now od.now cv.old cd.old at }
     ensures { Appended cv.old cd.old at (distinct_minus (entries iv.now id.now) (entries ov.now od.now)) cv.new cd.new result }
 {
-    let n = iv.len();
-    let m = ov.len();
     let mut i = 0;
     let mut j = 0;
     let mut k = at;
-    while i + j < n + m {
-        let w = which(iv, id, i, ov, j);
-        if w == 0 {
-            cv[k] = iv[i];
-            cd[k] = 1;
-            i += 1;
-            k += 1;
-        } else if w == 1 {
-            let d = od[j];
-            let e = negated(d);
-            cv[k] = ov[j];
-            cd[k] = e;
-            j += 1;
-            k += 1;
-        } else if w == 2 {
-            let d = od[j];
-            let e = one_less(d);
-            if is_zero(e) {
-                i += 1;
-                j += 1;
-            } else {
+    // A turn moves one index or both, and need not write: none of the three counts the turns.
+    while i + j < iv.len() + ov.len() {
+        match which(iv, id, i, ov, j) {
+            Turn::Input => {
                 cv[k] = iv[i];
-                cd[k] = e;
+                cd[k] = 1;
                 i += 1;
+                k += 1;
+            }
+            Turn::Output => {
+                cv[k] = ov[j];
+                cd[k] = -od[j];
                 j += 1;
                 k += 1;
             }
-        } else {
-            i += 1;
+            Turn::Both => {
+                let e = 1 - od[j];
+                if e != 0 {
+                    cv[k] = iv[i];
+                    cd[k] = e;
+                    k += 1;
+                }
+                i += 1;
+                j += 1;
+            }
+            Turn::Unlisted => i += 1,
         }
     }
     k
@@ -98,13 +99,13 @@ pub fn correct(
     ensures { Appended cv.old cd.old at (correction mode (entries iv.now id.now) (entries ov.now od.now)) cv.new cd.new result }
 {
     if mode == 1 {
-        let c = total(id);
-        if is_zero(c) {
-            return differ(&iv[0..0], &id[0..0], ov, od, cv, cd, at);
+        let count = total(id);
+        if count == 0 {
+            differ(&[], &[], ov, od, cv, cd, at)
+        } else {
+            differ(&[count_id(count)], &[1], ov, od, cv, cd, at)
         }
-        let value = [count_id(c); 1];
-        let once: [i64; 1] = [1; 1];
-        return differ(&value, &once, ov, od, cv, cd, at);
+    } else {
+        differ(iv, id, ov, od, cv, cd, at)
     }
-    differ(iv, id, ov, od, cv, cd, at)
 }

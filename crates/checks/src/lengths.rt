@@ -1,8 +1,11 @@
 // Check 11: "mode, width, unequal column lengths, a run or pending list over 4,096, lent memory too short".
-ghost use Rattle.std.specs.Prelude.{◌≡◌, ◌&&◌, ◌||◌, eqb, leb};
+ghost use Rattle.std.specs.Prelude.{◌≡◌, ◌&&◌, ◌||◌, eqb, leb, length};
 ghost use Rattle.grid.specs.Records.{most_records};
 ghost use Rattle.rules.specs.Memory.{alike};
-ghost use Rattle.checks.specs.Checks.{columns, level, room_for, sized};
+ghost use Rattle.requests.specs.Runs.{columns_of};
+ghost use Rattle.checks.specs.Checks.{level, room_for, sized};
+
+use requests::{Request, Run};
 
 // The most records of a run, and the most entries of a pending list.
 pub const MOST_RECORDS: usize = 4096;
@@ -11,92 +14,55 @@ pub const MOST_RECORDS: usize = 4096;
 fn is_mode(mode: u64) -> bool
     ensures { result ≡ (eqb mode 1 || eqb mode 2) }
 {
-    if mode == 1 {
-        return true;
-    }
-    mode == 2
+    mode == 1 || mode == 2
 }
 
 // A window has 1 to 64 keys.
 fn is_width(width: u64) -> bool
     ensures { result ≡ (leb 1 width && leb width 64) }
 {
-    if width < 1 {
-        return false;
-    }
-    width <= 64
+    1 <= width && width <= 64
 }
 
 fn are_short(old: usize, new: usize, out: usize, pending: usize) -> bool
     ensures { result ≡ (leb old most_records && leb new most_records && leb out most_records && leb pending most_records) }
 {
-    if old > MOST_RECORDS {
-        return false;
-    }
-    if new > MOST_RECORDS {
-        return false;
-    }
-    if out > MOST_RECORDS {
-        return false;
-    }
-    pending <= MOST_RECORDS
+    old <= MOST_RECORDS && new <= MOST_RECORDS && out <= MOST_RECORDS && pending <= MOST_RECORDS
 }
 
 // Whether mode and width, and how many entries the runs and the pending list have, are as they must be.
-pub fn are_sized(mode: u64, width: u64, old: usize, new: usize, out: usize, pending: usize) -> bool
-    ensures { result ≡ sized mode width old new out pending }
+#[tactic(auto, unfolding(crate::specs::Checks::sized))]
+pub fn are_sized(q: &Request<'_>) -> bool
+    ensures { result ≡ sized q.now.mode q.now.width (length q.now.old.keys.now) (length q.now.new.keys.now) (length q.now.out.keys.now) (length q.now.pending.keys.now) }
 {
-    if !is_mode(mode) {
-        return false;
-    }
-    if !is_width(width) {
-        return false;
-    }
-    are_short(old, new, out, pending)
+    is_mode(q.mode)
+        && is_width(q.width)
+        && are_short(
+            q.old.keys.len(),
+            q.new.keys.len(),
+            q.out.keys.len(),
+            q.pending.keys.len(),
+        )
 }
 
 // Whether a run's columns are of one length.
-fn are_alike(ks: &[u64], vs: &[u64], ts: &[u64], ds: &[i64]) -> bool
-    ensures { result ≡ alike (columns ks.now vs.now ts.now ds.now) }
+#[tactic(auto, unfolding(rules::specs::Memory::alike))]
+fn is_level(r: &Run<'_>) -> bool
+    ensures { result ≡ alike (columns_of r.now) }
 {
-    if vs.len() != ks.len() {
-        return false;
-    }
-    if ts.len() != ks.len() {
-        return false;
-    }
-    ds.len() == ks.len()
+    let n = r.keys.len();
+    r.values.len() == n && r.times.len() == n && r.diffs.len() == n
 }
 
 // Whether each run's columns are of one length, and those of the pending list are.
-pub fn are_level(
-    oldkeys: &[u64],
-    oldvalues: &[u64],
-    oldtimes: &[u64],
-    olddiffs: &[i64],
-    newkeys: &[u64],
-    newvalues: &[u64],
-    newtimes: &[u64],
-    newdiffs: &[i64],
-    outkeys: &[u64],
-    outvalues: &[u64],
-    outtimes: &[u64],
-    outdiffs: &[i64],
-    pendingkeys: &[u64],
-    pendingtimes: &[u64],
-) -> bool
-    ensures { result ≡ level (columns oldkeys.now oldvalues.now oldtimes.now olddiffs.now) (columns newkeys.now newvalues.now newtimes.now newdiffs.now) (columns outkeys.now outvalues.now outtimes.now outdiffs.now) pendingkeys.now pendingtimes.now }
+#[tactic(auto, unfolding(crate::specs::Checks::level))]
+pub fn are_level(q: &Request<'_>) -> bool
+    ensures { result ≡ level (columns_of q.now.old) (columns_of q.now.new) (columns_of q.now.out) q.now.pending.keys.now q.now.pending.times.now }
 {
-    if !are_alike(oldkeys, oldvalues, oldtimes, olddiffs) {
-        return false;
-    }
-    if !are_alike(newkeys, newvalues, newtimes, newdiffs) {
-        return false;
-    }
-    if !are_alike(outkeys, outvalues, outtimes, outdiffs) {
-        return false;
-    }
-    pendingtimes.len() == pendingkeys.len()
+    is_level(&q.old)
+        && is_level(&q.new)
+        && is_level(&q.out)
+        && q.pending.times.len() == q.pending.keys.len()
 }
 
 // Whether each length is at least its size.
@@ -106,12 +72,10 @@ pub fn is_room(sizes: &[usize], lengths: &[usize]) -> bool
     if lengths.len() < sizes.len() {
         return false;
     }
-    let mut i = 0;
-    while i < sizes.len() {
+    for i in 0..sizes.len() {
         if lengths[i] < sizes[i] {
             return false;
         }
-        i += 1;
     }
     true
 }

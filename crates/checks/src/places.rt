@@ -4,114 +4,71 @@ ghost use Rattle.grid.specs.Lists.{every};
 ghost use Rattle.grid.specs.Frontiers.{beyond, short_of};
 ghost use Rattle.checks.specs.Checks.{held_at, frontiers, above, placed, covered};
 
+use requests::{Frontiers, Request};
 use times::{PackedTime, is_beyond, is_frontier};
 
 // Whether every time is beyond the frontier.
 pub fn all_beyond(f: &[u64], ts: &[u64]) -> bool
     ensures { result ≡ every (beyond f.now) ts.now }
 {
-    let mut i = 0;
-    while i < ts.len() {
-        if !is_beyond(f, PackedTime(ts[i])) {
-            return false;
-        }
-        i += 1;
-    }
-    true
+    ts.iter().all(|t| is_beyond(f, PackedTime(*t)))
 }
 
 // Whether every time is short of the frontier.
 fn all_short(f: &[u64], ts: &[u64]) -> bool
     ensures { result ≡ every (short_of f.now) ts.now }
 {
-    let mut i = 0;
-    while i < ts.len() {
-        if is_beyond(f, PackedTime(ts[i])) {
-            return false;
-        }
-        i += 1;
-    }
-    true
+    ts.iter().all(|t| !is_beyond(f, PackedTime(*t)))
 }
 
+#[tactic(auto, unfolding(crate::specs::Checks::held_at))]
 fn is_held(upper: &[u64], held: &[u64], t: PackedTime) -> bool
     ensures { result ≡ held_at upper.now held.now t.0 }
 {
-    if is_beyond(upper, t) {
-        return true;
-    }
-    is_beyond(held, t)
+    is_beyond(upper, t) || is_beyond(held, t)
 }
 
 // Whether every time that is short of upper has a held time at or below it.
 fn all_held(upper: &[u64], held: &[u64], ts: &[u64]) -> bool
     ensures { result ≡ every (held_at upper.now held.now) ts.now }
 {
-    let mut i = 0;
-    while i < ts.len() {
-        if !is_held(upper, held, PackedTime(ts[i])) {
-            return false;
-        }
-        i += 1;
-    }
-    true
+    ts.iter().all(|t| is_held(upper, held, PackedTime(*t)))
 }
 
 // Check 12: lower, upper and held are frontiers.
-pub fn are_frontiers(lower: &[u64], upper: &[u64], held: &[u64]) -> bool
-    ensures { result ≡ frontiers lower.now upper.now held.now }
+#[tactic(auto, unfolding(crate::specs::Checks::frontiers))]
+pub fn are_frontiers(f: &Frontiers<'_>) -> bool
+    ensures { result ≡ frontiers f.now.lower.now f.now.upper.now f.now.held.now }
 {
-    if !is_frontier(lower) {
-        return false;
-    }
-    if !is_frontier(upper) {
-        return false;
-    }
-    is_frontier(held)
+    is_frontier(f.lower) && is_frontier(f.upper) && is_frontier(f.held)
 }
 
 // Check 13: upper and held times are beyond lower.
-pub fn are_above(lower: &[u64], upper: &[u64], held: &[u64]) -> bool
-    ensures { result ≡ above lower.now upper.now held.now }
+#[tactic(auto, unfolding(crate::specs::Checks::above))]
+pub fn are_above(f: &Frontiers<'_>) -> bool
+    ensures { result ≡ above f.now.lower.now f.now.upper.now f.now.held.now }
 {
-    if !all_beyond(lower, upper) {
-        return false;
-    }
-    all_beyond(lower, held)
+    all_beyond(f.lower, f.upper) && all_beyond(f.lower, f.held)
 }
 
 // Check 16: old input and old output are short of lower, new input is between lower and upper, pending times are beyond lower.
-pub fn are_placed(
-    lower: &[u64],
-    upper: &[u64],
-    old: &[u64],
-    new: &[u64],
-    out: &[u64],
-    pending: &[u64],
-) -> bool
-    ensures { result ≡ placed lower.now upper.now old.now new.now out.now pending.now }
+#[tactic(auto, unfolding(crate::specs::Checks::placed))]
+pub fn are_placed(q: &Request<'_>) -> bool
+    ensures { result ≡ placed q.now.frontiers.lower.now q.now.frontiers.upper.now q.now.old.times.now q.now.new.times.now q.now.out.times.now q.now.pending.times.now }
 {
-    if !all_short(lower, old) {
-        return false;
-    }
-    if !all_short(lower, out) {
-        return false;
-    }
-    if !all_beyond(lower, new) {
-        return false;
-    }
-    if !all_short(upper, new) {
-        return false;
-    }
-    all_beyond(lower, pending)
+    let Frontiers { lower, upper, .. } = q.frontiers;
+    all_short(lower, q.old.times)
+        && all_short(lower, q.out.times)
+        && all_beyond(lower, q.new.times)
+        && all_short(upper, q.new.times)
+        && all_beyond(lower, q.pending.times)
 }
 
 // Check 17: every new or pending time short of upper has a held time at or below it.
-pub fn are_held(upper: &[u64], held: &[u64], new: &[u64], pending: &[u64]) -> bool
-    ensures { result ≡ covered upper.now held.now new.now pending.now }
+#[tactic(auto, unfolding(crate::specs::Checks::covered))]
+pub fn are_held(q: &Request<'_>) -> bool
+    ensures { result ≡ covered q.now.frontiers.upper.now q.now.frontiers.held.now q.now.new.times.now q.now.pending.times.now }
 {
-    if !all_held(upper, held, new) {
-        return false;
-    }
-    all_held(upper, held, pending)
+    let Frontiers { upper, held, .. } = q.frontiers;
+    all_held(upper, held, q.new.times) && all_held(upper, held, q.pending.times)
 }

@@ -1,218 +1,77 @@
 // "Lowest of 11 to 17 wins; then 1, then 2": the status that a call has before any work.
 ghost use Rattle.std.specs.Prelude.{true, ◌&&◌, ◌≡◌};
 ghost use Rattle.grid.specs.Lists.{is_empty};
-ghost use Rattle.checks.specs.Checks.{columns, level, times_verdict, records_verdict, columns_verdict, status_before_work};
+ghost use Rattle.requests.specs.Runs.{columns_of};
+ghost use Rattle.requests.specs.Statuses.{number_of};
+ghost use Rattle.checks.specs.Checks.{level, times_verdict, records_verdict, columns_verdict, status_before_work};
 
 use crate::{lengths, order, places};
+use requests::{Request, Status};
 
 // Whether new run and pending list are both empty.
-fn is_unchanged(new: &[u64], pending: &[u64]) -> bool
-    ensures { result ≡ (is_empty new.now && is_empty pending.now) }
+fn is_unchanged(q: &Request<'_>) -> bool
+    ensures { result ≡ (is_empty q.now.new.times.now && is_empty q.now.pending.times.now) }
 {
-    if new.len() != 0 {
-        return false;
-    }
-    pending.len() == 0
+    q.new.times.is_empty() && q.pending.times.is_empty()
 }
 
 // The verdict from 16 on.
-fn times_verdict(
-    lower: &[u64],
-    upper: &[u64],
-    held: &[u64],
-    old: &[u64],
-    new: &[u64],
-    out: &[u64],
-    pending: &[u64],
-) -> u64
-    ensures { result ≡ times_verdict lower.now upper.now held.now old.now new.now out.now pending.now }
+#[tactic(auto, unfolding(crate::specs::Checks::times_verdict))]
+fn times_verdict(q: &Request<'_>) -> Status
+    ensures { number_of result ≡ times_verdict q.now.frontiers.lower.now q.now.frontiers.upper.now q.now.frontiers.held.now q.now.old.times.now q.now.new.times.now q.now.out.times.now q.now.pending.times.now }
 {
-    if !places::are_placed(lower, upper, old, new, out, pending) {
-        return 16;
+    if !places::are_placed(q) {
+        Status::Misplaced
+    } else if !places::are_held(q) {
+        Status::NotHeld
+    } else if places::all_beyond(q.frontiers.upper, q.frontiers.held) {
+        Status::Quiet
+    } else if is_unchanged(q) {
+        Status::Unchanged
+    } else {
+        Status::Done
     }
-    if !places::are_held(upper, held, new, pending) {
-        return 17;
-    }
-    if places::all_beyond(upper, held) {
-        return 1;
-    }
-    if is_unchanged(new, pending) {
-        return 2;
-    }
-    0
 }
 
 // The verdict from 14 on.
-fn records_verdict(
-    lower: &[u64],
-    upper: &[u64],
-    held: &[u64],
-    oldkeys: &[u64],
-    oldvalues: &[u64],
-    oldtimes: &[u64],
-    olddiffs: &[i64],
-    newkeys: &[u64],
-    newvalues: &[u64],
-    newtimes: &[u64],
-    newdiffs: &[i64],
-    outkeys: &[u64],
-    outvalues: &[u64],
-    outtimes: &[u64],
-    outdiffs: &[i64],
-    pendingkeys: &[u64],
-    pendingtimes: &[u64],
-) -> u64
-    requires { level (columns oldkeys.now oldvalues.now oldtimes.now olddiffs.now) (columns newkeys.now newvalues.now newtimes.now newdiffs.now) (columns outkeys.now outvalues.now outtimes.now outdiffs.now) pendingkeys.now pendingtimes.now ≡ true }
-    ensures { result ≡ records_verdict lower.now upper.now held.now (columns oldkeys.now oldvalues.now oldtimes.now olddiffs.now) (columns newkeys.now newvalues.now newtimes.now newdiffs.now) (columns outkeys.now outvalues.now outtimes.now outdiffs.now) pendingkeys.now pendingtimes.now }
+#[tactic(auto, unfolding(crate::specs::Checks::records_verdict))]
+fn records_verdict(q: &Request<'_>) -> Status
+    requires { level (columns_of q.now.old) (columns_of q.now.new) (columns_of q.now.out) q.now.pending.keys.now q.now.pending.times.now ≡ true }
+    ensures { number_of result ≡ records_verdict q.now.frontiers.lower.now q.now.frontiers.upper.now q.now.frontiers.held.now (columns_of q.now.old) (columns_of q.now.new) (columns_of q.now.out) q.now.pending.keys.now q.now.pending.times.now }
 {
-    if !order::are_good_runs(
-        oldkeys, oldvalues, oldtimes, olddiffs, newkeys, newvalues, newtimes, newdiffs, outkeys,
-        outvalues, outtimes, outdiffs,
-    ) {
-        return 14;
+    if !order::are_good_runs(q) {
+        Status::OutOfOrder
+    } else if !order::pending_ascends(&q.pending) {
+        Status::PendingOutOfOrder
+    } else {
+        times_verdict(q)
     }
-    if !order::pending_ascends(pendingkeys, pendingtimes) {
-        return 15;
-    }
-    times_verdict(
-        lower,
-        upper,
-        held,
-        oldtimes,
-        newtimes,
-        outtimes,
-        pendingtimes,
-    )
 }
 
 // The verdict, whole.
-fn verdict(
-    mode: u64,
-    width: u64,
-    lower: &[u64],
-    upper: &[u64],
-    held: &[u64],
-    oldkeys: &[u64],
-    oldvalues: &[u64],
-    oldtimes: &[u64],
-    olddiffs: &[i64],
-    newkeys: &[u64],
-    newvalues: &[u64],
-    newtimes: &[u64],
-    newdiffs: &[i64],
-    outkeys: &[u64],
-    outvalues: &[u64],
-    outtimes: &[u64],
-    outdiffs: &[i64],
-    pendingkeys: &[u64],
-    pendingtimes: &[u64],
-) -> u64
-    requires { level (columns oldkeys.now oldvalues.now oldtimes.now olddiffs.now) (columns newkeys.now newvalues.now newtimes.now newdiffs.now) (columns outkeys.now outvalues.now outtimes.now outdiffs.now) pendingkeys.now pendingtimes.now ≡ true }
-    ensures { result ≡ columns_verdict mode width lower.now upper.now held.now (columns oldkeys.now oldvalues.now oldtimes.now olddiffs.now) (columns newkeys.now newvalues.now newtimes.now newdiffs.now) (columns outkeys.now outvalues.now outtimes.now outdiffs.now) pendingkeys.now pendingtimes.now }
+#[tactic(auto, unfolding(crate::specs::Checks::columns_verdict))]
+fn verdict(q: &Request<'_>) -> Status
+    requires { level (columns_of q.now.old) (columns_of q.now.new) (columns_of q.now.out) q.now.pending.keys.now q.now.pending.times.now ≡ true }
+    ensures { number_of result ≡ columns_verdict q.now.mode q.now.width q.now.frontiers.lower.now q.now.frontiers.upper.now q.now.frontiers.held.now (columns_of q.now.old) (columns_of q.now.new) (columns_of q.now.out) q.now.pending.keys.now q.now.pending.times.now }
 {
-    if !lengths::are_sized(
-        mode,
-        width,
-        oldkeys.len(),
-        newkeys.len(),
-        outkeys.len(),
-        pendingkeys.len(),
-    ) {
-        return 11;
+    if !lengths::are_sized(q) {
+        Status::Short
+    } else if !places::are_frontiers(&q.frontiers) {
+        Status::NotFrontiers
+    } else if !places::are_above(&q.frontiers) {
+        Status::BelowLower
+    } else {
+        records_verdict(q)
     }
-    if !places::are_frontiers(lower, upper, held) {
-        return 12;
-    }
-    if !places::are_above(lower, upper, held) {
-        return 13;
-    }
-    records_verdict(
-        lower,
-        upper,
-        held,
-        oldkeys,
-        oldvalues,
-        oldtimes,
-        olddiffs,
-        newkeys,
-        newvalues,
-        newtimes,
-        newdiffs,
-        outkeys,
-        outvalues,
-        outtimes,
-        outdiffs,
-        pendingkeys,
-        pendingtimes,
-    )
 }
 
 // 11 where columns are of unequal lengths, or a length is below its size in `sizes`; else the verdict. No memory is touched.
-pub fn status_before_work(
-    mode: u64,
-    width: u64,
-    lower: &[u64],
-    upper: &[u64],
-    held: &[u64],
-    oldkeys: &[u64],
-    oldvalues: &[u64],
-    oldtimes: &[u64],
-    olddiffs: &[i64],
-    newkeys: &[u64],
-    newvalues: &[u64],
-    newtimes: &[u64],
-    newdiffs: &[i64],
-    outkeys: &[u64],
-    outvalues: &[u64],
-    outtimes: &[u64],
-    outdiffs: &[i64],
-    pendingkeys: &[u64],
-    pendingtimes: &[u64],
-    sizes: &[usize],
-    lengths: &[usize],
-) -> u64
-    ensures { result ≡ status_before_work mode width lower.now upper.now held.now (columns oldkeys.now oldvalues.now oldtimes.now olddiffs.now) (columns newkeys.now newvalues.now newtimes.now newdiffs.now) (columns outkeys.now outvalues.now outtimes.now outdiffs.now) pendingkeys.now pendingtimes.now sizes.now lengths.now }
+pub fn status_before_work(q: &Request<'_>, sizes: &[usize], lengths: &[usize]) -> Status
+    ensures { number_of result ≡ status_before_work q.now.mode q.now.width q.now.frontiers.lower.now q.now.frontiers.upper.now q.now.frontiers.held.now (columns_of q.now.old) (columns_of q.now.new) (columns_of q.now.out) q.now.pending.keys.now q.now.pending.times.now sizes.now lengths.now }
 {
-    if !lengths::are_level(
-        oldkeys,
-        oldvalues,
-        oldtimes,
-        olddiffs,
-        newkeys,
-        newvalues,
-        newtimes,
-        newdiffs,
-        outkeys,
-        outvalues,
-        outtimes,
-        outdiffs,
-        pendingkeys,
-        pendingtimes,
-    ) {
-        return 11;
+    if lengths::are_level(q) && lengths::is_room(sizes, lengths) {
+        verdict(q)
+    } else {
+        Status::Short
     }
-    if !lengths::is_room(sizes, lengths) {
-        return 11;
-    }
-    verdict(
-        mode,
-        width,
-        lower,
-        upper,
-        held,
-        oldkeys,
-        oldvalues,
-        oldtimes,
-        olddiffs,
-        newkeys,
-        newvalues,
-        newtimes,
-        newdiffs,
-        outkeys,
-        outvalues,
-        outtimes,
-        outdiffs,
-        pendingkeys,
-        pendingtimes,
-    )
 }

@@ -5,7 +5,6 @@
 -- keys_asked: what the changed keys ask. keys_are: what they are. lent-work, loops: what the windows ask
 -- concludes: what the answer asks once they are done. answers-call: it is that of any request whose runs these are
 use Prim.Native.Nat.{ℕ, suc, ◌+◌, ◌-◌, ◌≤◌, min}
-use native.Mathlib.Nat.{sub-zero}
 use native.Mathlib.Omega.{arith}
 use mathlib.Core.List.{List, [], ◌∷◌, ◌++◌}
 use mathlib.Core.Path.{◌≡◌, refl, ◌∙◌, ap}
@@ -131,10 +130,10 @@ module _ {most : ℕ} {R : Runs} {width : ℕ} {lower held moments res : List �
     pub keys_many : n ≤ length keys'
     keys_many = let f = found_few in let e : length keys' ≡ length keys = ap length L.holds ∙ laid-length found keys in omega (arith, L.counted)
 
-    pub keys_are : take (n - 0) keys' ≡ found
-    keys_are = let f = found_few in rw sub-zero (laid_front L (omega arith))
+    pub keys_are : take n keys' ≡ found
+    keys_are = let f = found_few in laid_front L (omega arith)
 
-    pub loops : Loops most R width (take (n - 0) keys')
+    pub loops : Loops most R width (take n keys')
     loops = record {
       good = A.good;
       room_few = A.room_few;
@@ -151,7 +150,7 @@ module _ {most : ℕ} {R : Runs} {width : ℕ} {lower held moments res : List �
         → length iv ≡ most + most → length id ≡ most + most → length ov ≡ most + most → length od ≡ most + most → length cd ≡ (most + most) + (most + most)
         → most + most ≤ length wv → length seeds ≡ most → length output ≡ most → length tracked ≡ most + suc most_moments → length tracked ≤ length wv
         → length nk ≡ most → length nt ≡ most → length fk ≡ most → length fv ≡ most → length ft ≡ most → length fd ≡ most
-        → LentWork most (min width (length (take (n - 0) keys'))) moments uv ut ud iv id ov od cd wv seeds output tracked nk nt fk fv ft fd res
+        → LentWork most (min width (length (take n keys'))) moments uv ut ud iv id ov od cd wv seeds output tracked nk nt fk fv ft fd res
     lent-work u1 u2 u3 a b c d e f g i j k nl nm l m p q = record {
       moments_room = rw keys_are A.room_moments;
       wide = record {

@@ -1,11 +1,16 @@
 -- The answer that a call comes to once its windows are done is the rules'.
 --
--- looped_fits: where there was room in less memory, there is in full memory. looped_call: 18, 19 or 0, as the call
+-- looped_fits: where there was room in less memory, there is in full memory. looped_call: 18, 19 or 0, as the call. tries_some: an answer is the try's
 use Prim.Native.Nat.{ℕ, ◌+◌, ◌≤◌}
 use native.Mathlib.Omega.{arith}
 use mathlib.Core.Bool.{Bool, true, false, ◌||◌, not}
 use mathlib.Core.List.{List, map, append-nil}
-use mathlib.Core.Path.{◌≡◌, sym, ◌∙◌, ap}
+use mathlib.Core.Path.{◌≡◌, sym, ◌∙◌, ap, subst}
+use lib.IntN.{ℤ}
+use Rattle.std.specs.Prelude.{Some}
+use Rattle.answers.specs.declared.Outcome.{Outcome}
+use Rattle.turns.specs.Runs.{Runs}
+use Rattle.concluding.specs.Answered.{Answered, Tries}
 use lib.Dec.{ltb}
 use lib.ListN.{length}
 use lib.Seq.{drop-length}
@@ -73,3 +78,9 @@ module _ {q : Request} {c : Course} {rs : List Row} {ps : List (ℕ × ℕ)} (W 
       by-test c.large
       (λ l. rw (e, n, w, l, answer_large W m (sym (L.large_is e) ∙ l)))
       (λ l. rw (e, n, w, l) (sym (answer-worked W m (past_all e l) (omega arith))))))
+
+-- an answer is the try's
+pub tries_some : {R : Runs} {mode width : ℕ} {lower held : List ℕ} {o : Outcome} {res res' : List ℕ} {rd rd' : List ℤ}
+    → Answered R mode width lower held o res res' rd rd' → Tries R mode width lower held (Some o) res res' rd rd'
+tries_some {R} {mode} {width} {lower} {held} {o} {res} {res'} {rd} {rd'} a =
+    record { answered = λ o' e. let s : o ≡ o' = cc in subst (λ x. Answered R mode width lower held x res res' rd rd') s a }

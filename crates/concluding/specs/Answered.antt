@@ -3,7 +3,7 @@
 -- most: for how many corrections and pended times there is room
 -- Answering: what the work asks once the input is formed. Answered: it answers any request whose runs these are
 -- Tries: so it does where there was room. Few: a call of few records
-use Rattle.std.specs.Prelude.{ℕ, ◌*◌, ◌≤◌, ◌<◌, min, true, List, [], ◌++◌, ◌≡◌, ℤ, length}
+use Rattle.std.specs.Prelude.{ℕ, ◌*◌, ◌≤◌, ◌<◌, min, Option, Some, List, [], ◌++◌, ◌≡◌, ℤ, length}
 use Rattle.grid.specs.Frontiers.{most_times}
 use Rattle.grid.specs.Records.{most_records}
 use Rattle.grid.specs.Times.{puts}
@@ -14,7 +14,6 @@ use Rattle.rules.proofs.Statuses.{Works}
 use Rattle.answers.specs.Tells.{Tells}
 use Rattle.answers.specs.declared.Outcome.{Outcome}
 use Rattle.turns.specs.Runs.{Runs, Good, Asked}
-use Rattle.concluding.specs.declared.Tried.{Tried}
 
 pub record Answering (most : ℕ) (R : Runs) (width : ℕ) (lower held moments res : List ℕ) (rd : List ℤ) : Type 0 where
   pub good : Good most R
@@ -31,8 +30,8 @@ pub record Answering (most : ℕ) (R : Runs) (width : ℕ) (lower held moments r
 pub record Answered (R : Runs) (mode width : ℕ) (lower held : List ℕ) (r : Outcome) (res res' : List ℕ) (rd rd' : List ℤ) : Type 0 where
   pub answers : (q : Request) → Works q → Asked q mode width R (puts (R.new_keys ++ R.pending_keys) []) → q.lower ≡ lower → q.held ≡ held → Tells (call q) r res res' rd rd'
 
-pub record Tries (R : Runs) (mode width : ℕ) (lower held : List ℕ) (r : Tried) (res res' : List ℕ) (rd rd' : List ℤ) : Type 0 where
-  pub answered : r.fits ≡ true → Answered R mode width lower held r.outcome res res' rd rd'
+pub record Tries (R : Runs) (mode width : ℕ) (lower held : List ℕ) (r : Option Outcome) (res res' : List ℕ) (rd rd' : List ℤ) : Type 0 where
+  pub answered : (o : Outcome) → r ≡ Some o → Answered R mode width lower held o res res' rd rd'
 
 pub record Few (new pending input out : ℕ) : Type 0 where
   pub few_new : new ≤ 64

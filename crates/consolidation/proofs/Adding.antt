@@ -1,43 +1,29 @@
 -- What the loop that adds up equal entries keeps.
 --
--- same_ties, same_other: how two pairs are compared. ends_more, ends_last: what ends a run of equals
+-- ends_more, ends_last: what ends a run of equals
 -- Adding: the entries from the i-th place on are still to be added up; k are written, and `sum` belongs to the run that begins at i
--- summed: a sum that went through locals. written_front: cleared after the front
-use Prim.Native.Nat.{ℕ, ◌≤◌, ◌<◌, ◌+◌, ◌-◌, ◌^◌}
+-- next_fits, goes_on, drops, stores: a turn, which adds a diff and ends a run or does not.
+use Prim.Native.Nat.{ℕ, ◌≤◌, ◌<◌, ◌+◌, ◌^◌}
 use native.Mathlib.Omega.{arith}
 use mathlib.Core.Bool.{Bool, true, false, not}
 use mathlib.Core.List.{List, [], ◌∷◌, ◌++◌, map, append-nil}
 use mathlib.Core.Path.{◌≡◌, refl, sym, ◌∙◌, ap}
-use lib.Dec.{eqb}
 use lib.IntN.{ℤ, pos, nat_abs, ◌+ℤ◌}
-use lib.ListN.{length, take, drop, get_or, replicate, length-set, length-map, drop_of_length-le}
-use lib.Seq.{length-take-le}
+use lib.ListN.{length, take, drop, get_or, length-set, drop_of_length-le}
 use lib.Signed.{mag}
 use mir.Syntax.{w64}
-use mir.Val.{of_z, to_z}
-use Rattle.grid.specs.Lists.{padded}
+use mir.Val.{of_z, to_z, SFits}
+use borrow.Author.Tests.{eq-eqb, ne_eqb}
 use Rattle.grid.specs.Consolidate.{is_zero}
 use Rattle.grid.proofs.Loops.{put_more, drop_more, map_more}
 use Rattle.grid.proofs.Sizes.{sizing_nat_abs}
 use Rattle.slices.specs.Places.{diff_entry}
-use Rattle.grid.proofs.Signed.{back, mag_le}
+use Rattle.grid.proofs.Signed.{back, mag_le, zero_test}
 use Rattle.distinct.specs.Sets.{ends_run}
-use Rattle.consolidation.specs.Entries.{Entry, first, second, diff, entry_at, pair_at, same_pair, mass, most_mass, Ready, Stored, Written, Front}
+use Rattle.consolidation.specs.Entries.{Entry, first, second, diff, entry_at, pair_at, same_pair, mass, most_mass, Stored, Written}
 use Rattle.consolidation.proofs.Squash.{key, squash}
 
--- ---- single diffs and pairs
-pub summed : {r : ℤ} (a x y : ℤ) → mag r < 2 ^ 63 → r ≡ a +ℤ to_z w64 (of_z w64 x) → mag x < 2 ^ 63 → x ≡ y → to_z w64 (of_z w64 r) ≡ a +ℤ y
-summed a x y h e k q = back h ∙ e ∙ ap (λ z. a +ℤ z) (back k ∙ q)
-
-module _ (p q : ℕ × ℕ) where
-  pub same_ties : {r : Bool} {t : Bool} → t ≡ eqb p.0 q.0 → t ≡ true → r ≡ eqb p.1 q.1 → r ≡ same_pair p q
-  unfolding same_pair
-  same_ties e h f = f ∙ sym (rw (sym e ∙ h))
-
-  pub same_other : {t : Bool} → t ≡ eqb p.0 q.0 → t ≡ false → false ≡ same_pair p q
-  unfolding same_pair
-  same_other e h = sym (rw (sym e ∙ h))
-
+-- ---- pairs
 module _ (a b places : List ℕ) (i : ℕ) where
   pub ends_more : {r : Bool} → i + 1 < length places → r ≡ same_pair (pair_at a b (get_or places i 0)) (pair_at a b (get_or places (i + 1) 0))
       → not r ≡ ends_run same_pair (map (pair_at a b) (drop i places))
@@ -94,19 +80,6 @@ pub record Adding (a b : List ℕ) (d : List ℤ) (places firsts seconds : List 
   pub done_first : take k firsts ++ map first (squash same_pair sum (map (entry_at a b d) (drop i places))) ≡ map first (squash same_pair (pos 0) (map (entry_at a b d) places))
   pub done_second : take k seconds ++ map second (squash same_pair sum (map (entry_at a b d) (drop i places))) ≡ map second (squash same_pair (pos 0) (map (entry_at a b d) places))
   pub done_diff : take k diffs ++ map diff (squash same_pair sum (map (entry_at a b d) (drop i places))) ≡ map diff (squash same_pair (pos 0) (map (entry_at a b d) places))
-
-pub adding_start : {a b : List ℕ} {d : List ℤ} {places firsts seconds : List ℕ} {diffs : List ℤ} → Ready a b d places firsts seconds diffs → Adding a b d places firsts seconds diffs (pos 0) 0 0
-adding_start {d = d} {places = places} m = record {
-  ki = omega arith;
-  il = omega arith;
-  long_first = m.room_first;
-  long_second = m.room_second;
-  long_diff = m.room_diff;
-  small = (let s : mass (map (diff_entry d) places) ≤ most_mass = m.bounded in omega arith);
-  done_first = refl;
-  done_second = refl;
-  done_diff = refl;
-}
 
 module _ {a b : List ℕ} {d : List ℤ} {places firsts seconds : List ℕ} {diffs : List ℤ} {sum : ℤ} {i k : ℕ} (m : Adding a b d places firsts seconds diffs sum i k) (h : i < length places) where
   sum_small : nat_abs (sum +ℤ get_or d (get_or places i 0) (pos 0)) + mass (map (diff_entry d) (drop (i + 1) places)) ≤ most_mass
@@ -183,6 +156,31 @@ ended : {A : Type 0} (f : Entry → A) (out : List A) (k : ℕ) (sum : ℤ) (goa
 unfolding squash
 ended f out k sum goal e q = sym (append-nil (take k out)) ∙ ap (λ l. take k out ++ map f (squash same_pair sum l)) (sym e) ∙ q
 
+-- x is the diff at the i-th place, and it is added in a local
+module _ {a b : List ℕ} {d : List ℤ} {places firsts seconds : List ℕ} {diffs : List ℤ} {sum : ℤ} {i k : ℕ} (m : Adding a b d places firsts seconds diffs sum i k) (h : i < length places)
+    {x : ℤ} (small : mag x < 2 ^ 63) (x_is : x ≡ get_or d (get_or places i 0) (pos 0)) where
+  abbrev next : ℤ
+  next = sum +ℤ to_z w64 (of_z w64 x)
+
+  next_is : next ≡ sum +ℤ get_or d (get_or places i 0) (pos 0)
+  next_is = ap (λ z. sum +ℤ z) (back small ∙ x_is)
+
+  next_small : mag next < 2 ^ 63
+  next_small = sum_fits m h (back small ∙ x_is)
+
+  pub next_fits : SFits w64 next
+  next_fits = record { sfits = next_small }
+
+  pub goes_on : ends_run same_pair (map (pair_at a b) (drop i places)) ≡ false → Adding a b d places firsts seconds diffs (to_z w64 (of_z w64 next)) (i + 1) k
+  goes_on e = adding_on m h _ (back next_small ∙ next_is) e
+
+  pub drops : ends_run same_pair (map (pair_at a b) (drop i places)) ≡ true → of_z w64 next ≡ 0 → Adding a b d places firsts seconds diffs (pos 0) (i + 1) k
+  drops e o = adding_zero m h next next_is e (sym (zero_test next next_fits) ∙ eq-eqb _ _ o)
+
+  pub stores : {firsts' seconds' : List ℕ} {diffs' : List ℤ} → ends_run same_pair (map (pair_at a b) (drop i places)) ≡ true → (of_z w64 next ≡ 0 → ⊥)
+      → Stored (pair_at a b (get_or places i 0)) (to_z w64 (of_z w64 next)) k firsts seconds diffs firsts' seconds' diffs' → Adding a b d places firsts' seconds' diffs' (pos 0) (i + 1) (k + 1)
+  stores e o t = adding_store m h _ (back next_small ∙ next_is) e (ap is_zero (back {z = next} next_small) ∙ sym (zero_test next next_fits) ∙ ne_eqb _ _ o) t
+
 pub adding_end : {a b : List ℕ} {d : List ℤ} {places firsts seconds : List ℕ} {diffs : List ℤ} {sum : ℤ} {i k : ℕ} (es : List Entry)
     → Adding a b d places firsts seconds diffs sum i k → length places ≤ i → squash same_pair (pos 0) (map (entry_at a b d) places) ≡ es → Written es (length places) k firsts seconds diffs
 adding_end {a} {b} {d} {places} {firsts} {seconds} {diffs} {sum} {i} {k} es m h e =
@@ -198,22 +196,4 @@ adding_end {a} {b} {d} {places} {firsts} {seconds} {diffs} {sum} {i} {k} es m h 
       long_first = m.long_first;
       long_second = m.long_second;
       long_diff = m.long_diff;
-    }
-
--- ---- zeros after the front
-cleared : {A : Type 0} (z : A) (f : Entry → A) (es : List Entry) (out : List A) {r n : ℕ} {out' : List A} → r ≡ length es → length out ≡ n → take r out ≡ map f es → out' ≡ take r out ++ replicate (length out - r) z → out' ≡ padded z n (map f es)
-cleared z f es out c l t e = e ∙ (λ i. t i ++ replicate (l i - (c ∙ sym (length-map es f)) i) z)
-
-pub written_front : {es : List Entry} {n r : ℕ} {firsts seconds : List ℕ} {diffs : List ℤ} {firsts' seconds' : List ℕ} {diffs' : List ℤ} → Written es n r firsts seconds diffs
-    → firsts' ≡ take r firsts ++ replicate (length firsts - r) 0 → seconds' ≡ take r seconds ++ replicate (length seconds - r) 0 → diffs' ≡ take r diffs ++ replicate (length diffs - r) (pos 0)
-    → Front es n r firsts' seconds' diffs'
-written_front {es} {n} {r} {firsts} {seconds} {diffs} m p q u =
-    let f : r ≤ n = m.fits in
-    let l : length firsts ≡ n = m.long_first in
-    let c : r ≡ length es = sym (length-take-le r firsts (omega arith)) ∙ ap length m.firsts_are ∙ length-map es first in
-    record {
-      count_is = c;
-      firsts_are = cleared 0 first es firsts c l m.firsts_are p;
-      seconds_are = cleared 0 second es seconds c m.long_second m.seconds_are q;
-      diffs_are = cleared (pos 0) diff es diffs c m.long_diff m.diffs_are u;
     }

@@ -1,7 +1,7 @@
 -- Entries by sorted places: what the columns hold there is the sort of what they hold.
 --
 -- squash_places: adding up by sorted places consolidates. places-consolidated: it consolidates all entries of the columns
--- mass_sort: a sort keeps the mass. places_all: a column, read at all its places. ready: what adding up asks. in_place: what the copy back leaves
+-- mass_sort: a sort keeps the mass. places_all: a column, read at all its places. ready: what adding up asks.
 use Prim.Native.Nat.{ℕ, zero, suc, ◌+◌}
 use native.Mathlib.Omega.{arith}
 use mathlib.Core.Bool.{Bool, true, false, ◌&&◌, ◌||◌, not}
@@ -20,8 +20,8 @@ use Rattle.grid.proofs.Sort.{Sorted, none, more, sorted_is, sort_sorted, sorted_
 use Rattle.slices.specs.Places.{diff_entry, up_from, up_to}
 use Rattle.sorting.specs.Halves.{Done}
 use Rattle.rows.specs.Order.{row_at, row_before, may_precede}
-use Rattle.rows.proofs.Order.{ranking}
-use Rattle.consolidation.specs.Entries.{Entry, entry_at, entries, consolidated, same_pair, mass, sorted_places, Lent, LentWork, Ready, Front, WorkAfter}
+use Rattle.rows.specs.Ranking.{ranking}
+use Rattle.consolidation.specs.Entries.{entry_at, entries, consolidated, same_pair, mass, sorted_places, Lent, LentWork, Ready, Front}
 use Rattle.consolidation.proofs.Squash.{Alike, not_after, squash, squash_consolidate, consolidate_sort}
 
 strict_pair : Strict (lex ltb ltb)
@@ -117,12 +117,12 @@ length-up_from k (suc n) = ap suc (length-up_from (suc k) n)
 
 -- ---- what the calls hand on: `counted` is what count_up left, `sorted` and `work` what the sort left
 module _ {a b : List ℕ} {d : List ℤ} {places firsts seconds : List ℕ} {diffs : List ℤ} (m : Lent a b d) (w : LentWork (length a) places firsts seconds diffs) where
-  pub sorted_places_lem : {counted sorted work : List ℕ} → counted ≡ up_to (length places) → Done (may_precede a b [] []) counted sorted work → sorted ≡ sorted_places a b
-  sorted_places_lem e s = s.sorted ∙ ap (sort (may_precede a b [] [])) (e ∙ ap up_to w.room_places)
+  pub places_sorted : {counted sorted work : List ℕ} → counted ≡ up_to (length places) → Done (may_precede a b [] []) counted sorted work → sorted ≡ sorted_places a b
+  places_sorted e s = s.sorted ∙ ap (sort (may_precede a b [] [])) (e ∙ ap up_to w.room_places)
 
   pub ready : {counted sorted work : List ℕ} → counted ≡ up_to (length places) → Done (may_precede a b [] []) counted sorted work → Ready a b d sorted work seconds diffs
   ready {sorted = sorted} {work = work} e s =
-      let p : sorted ≡ sorted_places a b = sorted_places_lem e s in
+      let p : sorted ≡ sorted_places a b = places_sorted e s in
       let l : length sorted ≡ length a = ap length p ∙ length_sort (may_precede a b [] []) (up_to (length a)) ∙ length-up_from 0 (length a) in
       record {
         in_order = ap (sort (may_precede a b [] [])) p ∙ sort_sorted (sorted_sort (ranking a b [] []) (up_to (length a))) ∙ sym p;
@@ -138,11 +138,3 @@ module _ {a b : List ℕ} {d : List ℤ} {places firsts seconds : List ℕ} {dif
       let l : length sorted ≡ length a = ap length p ∙ length_sort (may_precede a b [] []) (up_to (length a)) ∙ length-up_from 0 (length a) in
       let c : consolidated (map (entry_at a b d) sorted) ≡ consolidated (entries a b d) = ap (λ s. consolidated (map (entry_at a b d) s)) p ∙ places-consolidated a b d m.alike-second m.alike-diff in
       rw (← l, ← c) f
-
--- ---- the copy back
-pub in_place : {es : List Entry} {n r : ℕ} {order places firsts seconds a b : List ℕ} {diffs d : List ℤ} → Front es n r firsts seconds diffs → places ≡ order
-    → a ≡ firsts → b ≡ seconds → d ≡ diffs → Front es n r a b d × WorkAfter order a b d places firsts seconds diffs
-in_place f e p q u = (
-  record { count_is = f.count_is; firsts_are = p ∙ f.firsts_are; seconds_are = q ∙ f.seconds_are; diffs_are = u ∙ f.diffs_are },
-  record { places_are = e; firsts_same = sym p; seconds_same = sym q; diffs-same = sym u },
-)

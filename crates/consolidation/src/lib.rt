@@ -3,22 +3,19 @@
 #![tactic(auto)]
 
 ghost use Rattle.std.specs.Prelude.{◌≡◌, map, ◌<◌, length, drop};
-ghost use Rattle.slices.specs.Places.{entry};
 ghost use Rattle.distinct.specs.Sets.{ends_run};
 ghost use Rattle.consolidation.specs.Entries.{same_pair, pair_at, entry_at, entries, consolidated, sorted_places, Ready, Stored, Written, Front, Lent, LentWork, WorkAfter};
 
-use diffs::{is_zero, plus};
 use ordering::sort_places;
 use rows::ties;
-use slices::{clear_diffs_from, clear_from, copy, copy_diffs, count_up, diff_at, entry_at};
+use slices::{clear_from, count_up, entry_at};
 
+// Whether the entries at two places are equal, but for their diffs.
+#[tactic(auto, unfolding(crate::specs::Entries::same_pair))]
 fn same_pair(a: &[u64], b: &[u64], i: u64, j: u64) -> bool
     ensures { result ≡ same_pair (pair_at a.now b.now i) (pair_at a.now b.now j) }
 {
-    if ties(a, i, j) {
-        return ties(b, i, j);
-    }
-    false
+    ties(a, i, j) && ties(b, i, j)
 }
 
 // Whether the entry at the i-th place is the last of its equals.
@@ -26,11 +23,7 @@ fn ends_equals(a: &[u64], b: &[u64], places: &[u64], i: usize) -> bool
     requires { i < length places.now }
     ensures { result ≡ ends_run same_pair (map (pair_at a.now b.now) (drop i places.now)) }
 {
-    let j = i + 1;
-    if j < places.len() {
-        return !same_pair(a, b, places[i], places[j]);
-    }
-    true
+    places.len() <= i + 1 || !same_pair(a, b, places[i], places[i + 1])
 }
 
 // Stores an entry: what the columns hold at a place, with the diff s.
@@ -65,26 +58,16 @@ fn add_equals(
     requires { Ready a.now b.now d.now places.now firsts.old seconds.old diffs.old }
     ensures { Written (consolidated (map (entry_at a.now b.now d.now) places.now)) (length places.now) result firsts.new seconds.new diffs.new }
 {
-    let mut sum: i64 = 0;
-    let mut i = 0;
+    let mut sum = 0;
     let mut k = 0;
-    while i < places.len() {
-        let place = places[i];
-        let x = diff_at(d, place);
-        let s = plus(sum, x);
+    for (i, place) in places.iter().enumerate() {
+        sum += entry_at(d, *place);
         if ends_equals(a, b, places, i) {
-            if is_zero(s) {
-                sum = 0;
-                i += 1;
-            } else {
-                store(a, b, place, s, firsts, seconds, diffs, k);
-                sum = 0;
-                i += 1;
+            if sum != 0 {
+                store(a, b, *place, sum, firsts, seconds, diffs, k);
                 k += 1;
             }
-        } else {
-            sum = s;
-            i += 1;
+            sum = 0;
         }
     }
     k
@@ -106,7 +89,7 @@ fn add_up(
     let k = add_equals(a, b, d, places, firsts, seconds, diffs);
     clear_from(firsts, k);
     clear_from(seconds, k);
-    clear_diffs_from(diffs, k);
+    clear_from(diffs, k);
     k
 }
 
@@ -124,9 +107,8 @@ pub fn consolidate_into(
     requires { Lent a.now b.now d.now × LentWork (length a.now) places.old firsts.old seconds.old diffs.old }
     ensures { Front (consolidated (entries a.now b.now d.now)) (length a.now) result firsts.new seconds.new diffs.new × (places.new ≡ sorted_places a.now b.now) }
 {
-    let none = &a[0..0];
     count_up(places);
-    sort_places(a, b, none, none, places, firsts);
+    sort_places(a, b, &[], &[], places, firsts);
     add_up(a, b, d, places, firsts, seconds, diffs)
 }
 
@@ -146,8 +128,8 @@ pub fn consolidate(
     ensures work_after { WorkAfter (sorted_places a.old b.old) a.new b.new d.new places.new firsts.new seconds.new diffs.new }
 {
     let r = consolidate_into(a, b, d, places, firsts, seconds, diffs);
-    copy(firsts, a);
-    copy(seconds, b);
-    copy_diffs(diffs, d);
+    a.copy_from_slice(firsts);
+    b.copy_from_slice(seconds);
+    d.copy_from_slice(diffs);
     r
 }

@@ -25,8 +25,9 @@ use Rattle.rules.proofs.Memory.{Cleared, memory_untouched, lent_cleared, lent_we
 use Rattle.rules.proofs.Patience.{patient_call}
 use Rattle.rules.proofs.Statuses.{call_one_of}
 use Rattle.rules.proofs.Width.{at_width, Agree, width_agrees, longest, sum_of, call-crossings}
-use Rattle.demands.specs.Answers.{Retires, answer_in}
+use Rattle.demands.specs.Answers.{Retires, answer_from, answer_in}
 use Rattle.demands.specs.Exchanges.{Exchange, asked, answer, Follows, StaysListed, ends, goes_on, passes_over, no_more, unheard, listed, settled}
+use Rattle.requests.specs.Statuses.{number_of}
 use Rattle.answers.specs.declared.Outcome.{Outcome}
 use Rattle.demands.proofs.Read.{answer_read}
 
@@ -35,16 +36,16 @@ module _ (z : Lent → Sizes) (l : Lent) (r : Outcome) (m : Memory) (R : Retires
   q = request_of l
 
   -- ---- demand 1
-  pub retire_status : any (eqb r.status) (0 ∷ 11 ∷ 12 ∷ 13 ∷ 14 ∷ 15 ∷ 16 ∷ 17 ∷ 1 ∷ 2 ∷ 18 ∷ 19 ∷ []) ≡ true
+  pub retire_status : any (eqb (number_of r.status)) (0 ∷ 11 ∷ 12 ∷ 13 ∷ 14 ∷ 15 ∷ 16 ∷ 17 ∷ 1 ∷ 2 ∷ 18 ∷ 19 ∷ []) ≡ true
   unfolding refused
   retire_status =
       rw R.status_is
       (by-test (lent_well (z l) l) (λ e. rw (lent_well_lem (z l) l e) (call_one_of q)) (λ e. rw (lent_ill (z l) l e) refl))
 
-  pub retire_untouched : 11 ≤ r.status → r.status ≤ 17 → m ≡ l.memory
+  pub retire_untouched : 11 ≤ number_of r.status → number_of r.status ≤ 17 → m ≡ l.memory
   retire_untouched h k = R.memory_is ∙ memory_untouched (call_lent (z l) l) l.memory (rw R.status_is at h) (rw R.status_is at k)
 
-  pub retire_cleared : 17 < r.status → Cleared l.memory m
+  pub retire_cleared : 17 < number_of r.status → Cleared l.memory m
   retire_cleared h = rw R.memory_is (lent_cleared (z l) l (rw R.status_is at h))
 
   -- ---- demand 2
@@ -72,7 +73,7 @@ module _ (z : Lent → Sizes) (l : Lent) (r : Outcome) (m : Memory) (R : Retires
     retire_only x C = rw own_call (call_only q taken x C)
 
     pub retire_crossings : r.crossings ≤ sum_of longest (windows (length (work_all q)) q.width (map (λ (d : Done). d.found.moments) (work_all q)))
-    unfolding answer_in
+    unfolding answer_from
     retire_crossings = rw (ap (λ (b : Answer). b.crossings) own_call) (call-crossings q)
 
 -- the width changes nothing but crossings

@@ -26,7 +26,8 @@ use Rattle.rules.proofs.Tiles.{Bounded}
 use Rattle.rules.proofs.Statuses.{call-refused}
 use Rattle.rules.proofs.Memory.{Fits, lent_fits, padded_length, tiles-numbers, tile-length, lent_well_lem, lent_ill}
 use Rattle.arranging.specs.Arranged.{fixes}
-use Rattle.demands.specs.Answers.{Retires, columns_past, tile_in, tiles_in, answer_in}
+use Rattle.demands.specs.Answers.{Retires, columns_past, tile_in, tiles_in, answer_from, answer_in}
+use Rattle.requests.proofs.Statuses.{same_status}
 use Rattle.answers.specs.declared.Outcome.{Outcome}
 
 fixes-columns : (fs : List Fix) → fixes (map (λ (f : Fix). f.tile) fs) (map (λ (f : Fix). f.row.key) fs) (map (λ (f : Fix). f.row.value) fs) (map (λ (f : Fix). f.row.time) fs) (map (λ (f : Fix). f.row.diff) fs) ≡ fs
@@ -157,15 +158,16 @@ module _ (a : Answer) (f : Fits a) (rest : List ℕ) where
 abbrev untouched : Answer → Bool
 untouched a = leb 11 a.status && leb a.status 17
 
-abbrev counts : Answer → Outcome
-counts a = record { status = a.status; crossings = a.crossings; tiles = length a.tiles; fixes = length a.fixes; pending = length a.pending; frontier = length a.frontier }
+-- as many of each as an answer has
+abbrev read_as : Answer → Memory → Answer
+read_as a m = answer_from a.status a.crossings (length a.tiles) (length a.fixes) (length a.pending) (length a.frontier) m
 
-none_read : (n : ℕ) (m : Memory) → answer_in (counts (refused n)) m ≡ refused n
-unfolding answer_in refused tiles_in
+none_read : (n : ℕ) (m : Memory) → read_as (refused n) m ≡ refused n
+unfolding answer_from refused tiles_in
 none_read n m = refl
 
-results_read : (a : Answer) (m : Memory) → Fits a → untouched a ≡ false → answer_in (counts a) (after a m) ≡ a
-unfolding answer_in after leaves columns_past
+results_read : (a : Answer) (m : Memory) → Fits a → untouched a ≡ false → read_as a (after a m) ≡ a
+unfolding answer_from after leaves columns_past
 results_read a m f e =
     rw e (λ i. record {
       status = a.status;
@@ -186,16 +188,23 @@ module _ (z : Lent → Sizes) (l : Lent) (r : Outcome) (m : Memory) (R : Retires
       rw (lent_well_lem (z l) l w) (call-refused (request_of l) (omega arith)))
       (λ w. rw (lent_ill (z l) l w) refl)
 
-  said : r ≡ counts (call_lent (z l) l)
-  said = λ i. record { status = R.status_is i; crossings = R.crossings_are i; tiles = R.tiles-many i; fixes = R.fixes-many i; pending = R.pending_many i; frontier = R.frontier_many i }
-
   pub answer_read : answer_in r m ≡ call_lent (z l) l
   answer_read =
-      (λ i. answer_in (said i) (R.memory_is i))
+      (λ i. answer_from (R.status_is i) (R.crossings_are i) (R.tiles-many i) (R.fixes-many i) (R.pending_many i) (R.frontier_many i) (R.memory_is i))
       ∙ by-test (untouched (call_lent (z l) l))
-      (λ e. let s = nothing_said e in ap (λ a. answer_in (counts a) (after (call_lent (z l) l) l.memory)) s ∙ none_read (call_lent (z l) l).status (after (call_lent (z l) l) l.memory) ∙ sym s)
+      (λ e. let s = nothing_said e in ap (λ a. read_as a (after (call_lent (z l) l) l.memory)) s ∙ none_read (call_lent (z l) l).status (after (call_lent (z l) l) l.memory) ∙ sym s)
       (λ e. results_read (call_lent (z l) l) l.memory (lent_fits (z l) l) e)
 
 -- a call says and leaves one thing only
 pub retires_one : {z : Lent → Sizes} {l : Lent} {r r' : Outcome} {m m' : Memory} → Retires z l r m → Retires z l r' m' → (r ≡ r') × (m ≡ m')
-retires_one {z} {l} {r} {r'} {m} {m'} R R' = (said z l r m R ∙ sym (said z l r' m' R'), R.memory_is ∙ sym R'.memory_is)
+retires_one {r = r} {r' = r'} R R' = (
+  (λ i. record {
+    status = same_status r.status r'.status (R.status_is ∙ sym R'.status_is) i;
+    crossings = (R.crossings_are ∙ sym R'.crossings_are) i;
+    tiles = (R.tiles-many ∙ sym R'.tiles-many) i;
+    fixes = (R.fixes-many ∙ sym R'.fixes-many) i;
+    pending = (R.pending_many ∙ sym R'.pending_many) i;
+    frontier = (R.frontier_many ∙ sym R'.frontier_many) i;
+  }),
+  R.memory_is ∙ sym R'.memory_is,
+)

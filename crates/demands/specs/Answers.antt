@@ -5,7 +5,7 @@
 -- at every status
 -- Retired a m r m': r is said of the answer a, and memory, which was m, holds what it holds after that answer
 -- columns_past i: what lies past i columns. tile_in, tiles_in: tiles read from their numbers
--- answer_in r m: the answer as it is read: so many corrections, pending entries, tiles and frontier times as the call says
+-- answer_in r m: the answer as it is read: so many corrections, pending entries, tiles and frontier times as the call says. answer_from: from six numbers
 use Rattle.std.specs.Prelude.{ℕ, zero, suc, ◌*◌, List, [], ◌∷◌, ◌≡◌, length, take, drop, get_or}
 use Rattle.grid.specs.Frontiers.{most_times}
 use Rattle.grid.specs.Records.{most_records, pairs}
@@ -13,11 +13,12 @@ use Rattle.rules.specs.Tiles.{Tile}
 use Rattle.rules.specs.Call.{Answer}
 use Rattle.rules.specs.Memory.{Memory, Sizes, Lent, most_bound, tile_size, call_lent, after}
 use Rattle.arranging.specs.Arranged.{fixes}
+use Rattle.requests.specs.Statuses.{number_of}
 use Rattle.answers.specs.Tells.{Tells}
 use Rattle.answers.specs.declared.Outcome.{Outcome}
 
 pub record Retires (z : Lent → Sizes) (l : Lent) (r : Outcome) (m : Memory) : Type 0 where
-  pub status_is : r.status ≡ (call_lent (z l) l).status
+  pub status_is : number_of r.status ≡ (call_lent (z l) l).status
   pub crossings_are : r.crossings ≡ (call_lent (z l) l).crossings
   pub tiles-many : r.tiles ≡ length (call_lent (z l) l).tiles
   pub fixes-many : r.fixes ≡ length (call_lent (z l) l).fixes
@@ -44,14 +45,17 @@ unfoldable pub tiles_in : ℕ → List ℕ → List Tile
 tiles_in zero s = []
 tiles_in (suc n) s = tile_in s ∷ tiles_in n (drop tile_size s)
 
-unfoldable pub answer_in : Outcome → Memory → Answer
-answer_in r m =
+unfoldable pub answer_from : ℕ → ℕ → ℕ → ℕ → ℕ → ℕ → Memory → Answer
+answer_from status crossings tiles fixes_many pending frontier m =
     let s = m.numbers in
     record {
-      status = r.status;
-      crossings = r.crossings;
-      tiles = tiles_in r.tiles (columns_past 6 s);
-      fixes = fixes (take r.fixes s) (take r.fixes (columns_past 1 s)) (take r.fixes (columns_past 2 s)) (take r.fixes (columns_past 3 s)) (take r.fixes m.diffs);
-      pending = pairs (take r.pending (columns_past 4 s)) (take r.pending (columns_past 5 s));
-      frontier = take r.frontier (drop (most_times * tile_size) (columns_past 6 s));
+      status = status;
+      crossings = crossings;
+      tiles = tiles_in tiles (columns_past 6 s);
+      fixes = fixes (take fixes_many s) (take fixes_many (columns_past 1 s)) (take fixes_many (columns_past 2 s)) (take fixes_many (columns_past 3 s)) (take fixes_many m.diffs);
+      pending = pairs (take pending (columns_past 4 s)) (take pending (columns_past 5 s));
+      frontier = take frontier (drop (most_times * tile_size) (columns_past 6 s));
     }
+
+abbrev pub answer_in : Outcome → Memory → Answer
+answer_in r m = answer_from (number_of r.status) r.crossings r.tiles r.fixes r.pending r.frontier m

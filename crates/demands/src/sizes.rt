@@ -12,10 +12,7 @@ pub const COLUMN_SIZE: usize = 8192;
 fn few(n: usize) -> usize
     ensures { result ≡ min n most_records }
 {
-    if n > 4096 {
-        return 4096;
-    }
-    n
+    n.min(4096)
 }
 
 // 1 where a stretch of equal keys ends at i, else 0.
@@ -24,12 +21,12 @@ fn end_at(keys: &[u64], i: usize) -> usize
     ensures { (heads (drop i keys.now) ≡ result + heads (drop (i + 1) keys.now)) × (result ≤ 1) }
 {
     if i + 1 == keys.len() {
-        return 1;
+        1
+    } else if keys[i] == keys[i + 1] {
+        0
+    } else {
+        1
     }
-    if keys[i] == keys[i + 1] {
-        return 0;
-    }
-    1
 }
 
 // How many stretches of equal keys there are.
@@ -37,33 +34,17 @@ fn count_heads(keys: &[u64]) -> usize
     ensures { result ≡ heads keys.now }
 {
     let mut n = 0;
-    let mut i = 0;
-    while i < keys.len() {
+    for i in 0..keys.len() {
         n += end_at(keys, i);
-        i += 1;
     }
     n
-}
-
-// A width, at most as wide as it may be.
-fn narrow(width: u64) -> usize
-    ensures { result ≡ min width 64 }
-{
-    if width > 64 {
-        return 64;
-    }
-    width as usize
 }
 
 // How many keys a window has at most, where n keys are changed at most.
 fn window_keys(width: u64, n: usize) -> usize
     ensures { result ≡ min (min width 64) n }
 {
-    let w = narrow(width);
-    if n < w {
-        return n;
-    }
-    w
+    (width.min(64) as usize).min(n)
 }
 
 // Long enough for a call: each column of the input.
@@ -79,9 +60,5 @@ pub fn moments_needed(width: u64, old: usize, newkeys: &[u64], pendingkeys: &[u6
 {
     let n = column_needed(old, newkeys.len());
     let k = window_keys(width, count_heads(newkeys) + count_heads(pendingkeys));
-    let m = 1024 * k + 1;
-    if m < n {
-        return n;
-    }
-    m
+    n.max(1024 * k + 1)
 }

@@ -1,7 +1,7 @@
 -- The loads: what stands in the columns afterwards.
 --
 -- loading: seeds, input and output were loaded. meets_appended: the suffix meets of a column, behind what was written before
--- all_meets_lem: the suffix meets of seeds, pending, input and output, one after the other
+-- meets_all_appended: the suffix meets of seeds, pending, input and output, one after the other
 use Prim.Native.Nat.{ℕ, ◌+◌, ◌-◌, ◌≤◌}
 use native.Mathlib.Omega.{arith}
 use mathlib.Core.List.{List, ◌++◌, append_assoc, map}
@@ -17,7 +17,7 @@ use Rattle.grid.specs.Times.{joined, meets}
 use Rattle.grid.proofs.Slices.{laid_fits}
 use Rattle.grid.proofs.Sort.{length_sort}
 use Rattle.times.specs.Meets.{optional}
-use Rattle.times.specs.declared.optional.Meet.{Meet}
+use Rattle.times.specs.Meets.{Meet}
 use Rattle.rules.specs.Histories.{Edit, load_times, suffix_meets}
 use Rattle.histories.specs.Loads.{Loads}
 use Rattle.histories.proofs.Suffixes.{length-suffix_meets}
@@ -63,11 +63,11 @@ meets_appended at count ts ms {ys} h k e =
     ap (λ i. take (i + count) (put_mid at (at + count - at) ms ys)) (sym m) ∙ take-append-add (take at ms) (ys ++ rest) count
     ∙ ap (λ l. take at ms ++ l) (ap (λ l. take count (l ++ rest)) y ∙ ap (take count) (append_assoc X (drop (length X) (mid_of at (at + count - at) ms)) rest) ∙ take_at X (drop (length X) (mid_of at (at + count - at) ms) ++ rest) count n)
 
-pub all_meets_lem : (seeds pending times output ms : List ℕ) (s t o : ℕ) {r₁ r₂ r₃ r₄ : ℕ} {a b c : List ℕ} → r₁ ≡ 0 + s → r₂ ≡ r₁ + length pending → r₃ ≡ r₂ + t → r₄ ≡ r₃ + o
+pub meets_all_appended : (seeds pending times output ms : List ℕ) (s t o : ℕ) {r₁ r₂ r₃ r₄ : ℕ} {a b c : List ℕ} → r₁ ≡ 0 + s → r₂ ≡ r₁ + length pending → r₃ ≡ r₂ + t → r₄ ≡ r₃ + o
     → a ≡ suffix_meets seeds → b ≡ a ++ suffix_meets (take (length pending) pending) → c ≡ b ++ suffix_meets times → take r₄ ms ≡ c ++ suffix_meets output
     → take (((s + length pending) + t) + o) ms ≡ all_meets seeds pending times output
 unfolding all_meets
-all_meets_lem seeds pending times output ms s t o {r₄ = r₄} e₁ e₂ e₃ e₄ f g h k =
+meets_all_appended seeds pending times output ms s t o {r₄ = r₄} e₁ e₂ e₃ e₄ f g h k =
     let n : ((s + length pending) + t) + o ≡ r₄ = omega arith in
     let S = suffix_meets seeds in
     let P = suffix_meets pending in

@@ -1,7 +1,7 @@
 -- The start of a walk: what was loaded is the state that the definition starts from.
 --
 -- start_state: the columns hold the definition's first state. start-kept: what the walk keeps holds at its start
--- parts_meet: the parts of the column of meets. prepared_kept: so what the walk keeps holds where all is loaded. first_state_lem: its state there
+-- parts_meet: the parts of the column of meets. prepared_kept: so what the walk keeps holds where all is loaded. at_first_state: its state there
 -- loaded-start: after the loads that is the definition's first state. loaded_prepared: all that the walk asks
 use Prim.Native.Nat.{ℕ, suc, ◌+◌, ◌-◌, ◌≤◌}
 use native.Mathlib.Omega.{arith}
@@ -15,7 +15,7 @@ use lib.ListN.{length, take, drop, length-append, take-append-drop}
 use lib.Seq.{length-take-le, take_at, drop_at}
 use Rattle.grid.specs.Times.{meets}
 use Rattle.times.specs.Meets.{optional}
-use Rattle.times.specs.declared.optional.Meet.{Meet}
+use Rattle.times.specs.Meets.{Meet}
 use Rattle.rules.specs.Histories.{Edit, load_times, load_edits, suffix_meets}
 use Rattle.rules.specs.Discover.{most_moments, start}
 use Rattle.histories.specs.Places.{history_of}
@@ -141,9 +141,9 @@ module _ {pending column : List ℕ} {scount count ocount : ℕ} {seeds times va
 
 module _ (seeds pending times values : List ℕ) (diffs : List ℤ) (output waiting tracked moments pended : List ℕ) (scount count ocount : ℕ) (m : Meet) where
   -- where nothing was replayed, what waits and what was found does not matter
-  pub first_state_lem : {p : Walk} → p ≡ first_walk m → state_of (take (scount - 0) seeds) pending (take (count - 0) times) (take (count - 0) values) (take (count - 0) diffs) (take (ocount - 0) output) waiting tracked moments pended p ≡ first_state (take scount seeds) pending (take count times) (take count values) (take count diffs) (take ocount output) m
+  pub at_first_state : {p : Walk} → p ≡ first_walk m → state_of (take (scount - 0) seeds) pending (take (count - 0) times) (take (count - 0) values) (take (count - 0) diffs) (take (ocount - 0) output) waiting tracked moments pended p ≡ first_state (take scount seeds) pending (take count times) (take count values) (take count diffs) (take ocount output) m
   unfolding state_of
-  first_state_lem e = simp (sub-zero, e)
+  at_first_state e = simp (sub-zero, e)
 
 -- ---- from the loads
 module _ {seedtimes pending intimes invalues : List ℕ} {indiffs : List ℤ} {outtimes seeds times values : List ℕ} {diffs : List ℤ} {output column waiting tracked moments pended work places wvalues : List ℕ} {wdiffs : List ℤ}

@@ -3,8 +3,8 @@
 -- Loading: what was loaded, and the meet of seeds and pending
 -- all_meets: the meets of all suffixes of seeds, pending, input and output, one after the other
 -- Lending: what discover_key asks. Prepared: what is asked once all is loaded
--- Finds D moments pended r: a limit was passed exactly if it was in D; else the moments and the pended times are those of D
-use Rattle.std.specs.Prelude.{ℕ, suc, ◌+◌, ◌≤◌, false, List, ◌++◌, ◌≡◌, ℤ, length, take}
+-- Finds D moments pended r: nothing is found exactly if a limit was passed in D; else the moments and the pended times are those of D
+use Rattle.std.specs.Prelude.{Option, Some, None, ℕ, suc, ◌+◌, ◌≤◌, true, false, List, ◌++◌, ◌≡◌, ℤ, length, take}
 use Rattle.std.proofs.Math.Option.{none}
 use Rattle.grid.specs.Times.{meets}
 use Rattle.times.specs.Meets.{optional}
@@ -27,10 +27,9 @@ pub record Loading (seedtimes pending : List ℕ) (input : List Edit) (most : �
 unfoldable pub all_meets : List ℕ → List ℕ → List ℕ → List ℕ → List ℕ
 all_meets seeds pending times output = suffix_meets seeds ++ (suffix_meets pending ++ (suffix_meets times ++ suffix_meets output))
 
-pub record Finds (D : State) (moments pended : List ℕ) (r : Found) : Type 0 where
-  pub over_is : r.over ≡ D.over
-  pub moments_are : r.over ≡ false → take r.moments moments ≡ D.moments
-  pub pended_are : r.over ≡ false → take r.pended pended ≡ D.pended
+pub data Finds (D : State) (moments pended : List ℕ) : Option Found → Type 0 where
+  limited : D.over ≡ true → Finds D moments pended None
+  counted : (f : Found) → D.over ≡ false → take f.moments moments ≡ D.moments → take f.pended pended ≡ D.pended → Finds D moments pended (Some f)
 
 -- what is lent: columns with room for what is loaded and for what is found
 pub record Lending (seedtimes pending intimes invalues : List ℕ) (indiffs : List ℤ) (outtimes seeds times values : List ℕ) (diffs : List ℤ) (output column waiting tracked moments pended work places wvalues : List ℕ) (wdiffs : List ℤ) : Type 0 where

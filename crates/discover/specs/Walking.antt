@@ -6,8 +6,9 @@
 -- Going upper R s: the walk ends in R, and stands at s: the rest of the walk from s ends in R; or a limit was passed, in R too
 -- Ended R s: s is R; or a limit was passed in both
 -- Begun upper s: no limit was passed, and nothing waits that is not short of upper
+-- walk_after p r: the walk r, or p where there is none
 -- first_walk m: the walk that starts with the meet m. first_state: the state in which it starts
-use Rattle.std.specs.Prelude.{ℕ, ◌≤◌, Bool, true, false, List, [], ◌≡◌, ℤ}
+use Rattle.std.specs.Prelude.{Option, Some, None, ℕ, ◌≤◌, Bool, true, false, List, [], ◌≡◌, ℤ}
 use Rattle.std.proofs.Math.Option.{none, some}
 use Rattle.grid.specs.Frontiers.{beyond}
 use Rattle.grid.proofs.Lists.{All}
@@ -16,7 +17,7 @@ use Rattle.rules.proofs.Fuel.{measure, Bounded}
 use Rattle.pops.specs.Standing.{Standing}
 use Rattle.steps.specs.Walks.{state_of, Known, Roomy, Worked, Steps}
 use Rattle.pops.specs.declared.Walk.{Walk}
-use Rattle.times.specs.declared.optional.Meet.{Meet}
+use Rattle.times.specs.Meets.{Meet}
 
 pub record Kept (seeds seedm pending pendm times values : List ℕ) (diffs : List ℤ) (inputm output outputm waiting tracked moments pended work places wvalues : List ℕ) (wdiffs : List ℤ) (w : Walk) : Type 0 where
   pub standing : Standing seeds pending times values diffs output w
@@ -42,6 +43,10 @@ pub record Ended (R s : State) : Type 0 where
 pub record Begun (upper : List ℕ) (s : State) : Type 0 where
   pub within : s.over ≡ false
   pub bounded : Bounded upper s
+
+abbrev pub walk_after : Walk → Option Walk → Walk
+walk_after p None = p
+walk_after p (Some w) = w
 
 -- nothing was replayed
 abbrev pub first_walk : Meet → Walk

@@ -12,9 +12,10 @@ use crate::walks::walk;
 use histories::Place;
 use pops::Walk;
 use steps::is_over;
-use times::Meet;
+use times::PackedTime;
 
-fn first_walk(m: Meet) -> Walk
+// The walk that starts with the meet m.
+fn first_walk(m: Option<PackedTime>) -> Walk
     ensures { result ≡ first_walk m }
 {
     Walk {
@@ -30,7 +31,7 @@ fn first_walk(m: Meet) -> Walk
     }
 }
 
-// Walks through what was loaded: `scount` seeds, the edits of the input, and `ocount` outputs.
+// Walks through what was loaded: `scount` seeds, the edits of the input, and `ocount` outputs. Nothing is found if a limit was passed.
 fn walk_from(
     upper: &[u64],
     pending: &[u64],
@@ -51,14 +52,12 @@ fn walk_from(
     places: &mut [u64],
     wvalues: &mut [u64],
     wdiffs: &mut [i64],
-) -> Found
+) -> Option<Found>
     requires prepared { Prepared pending.now column.now scount l.count ocount seeds.old times.old values.old diffs.old output.old waiting.old tracked.old moments.old pended.old work.old places.old wvalues.old wdiffs.old }
     requires begun { Begun upper.now (first_state (take scount seeds.old) pending.now (take l.count times.old) (take l.count values.old) (take l.count diffs.old) (take ocount output.old) l.m) }
     ensures { Finds (run upper.now (measure (first_state (take scount seeds.old) pending.now (take l.count times.old) (take l.count values.old) (take l.count diffs.old) (take ocount output.old) l.m)) (first_state (take scount seeds.old) pending.now (take l.count times.old) (take l.count values.old) (take l.count diffs.old) (take ocount output.old) l.m)) moments.new pended.new result }
 {
     let c = l.count;
-    let m = l.m;
-    let p = first_walk(m);
     let a = scount + pending.len();
     let b = a + c;
     let d = b + ocount;
@@ -82,16 +81,19 @@ fn walk_from(
         places,
         wvalues,
         wdiffs,
-        p,
+        first_walk(l.m),
     );
-    Found {
-        moments: w.moments,
-        pended: w.pended,
-        over: is_over(w),
+    if is_over(w) {
+        None
+    } else {
+        Some(Found {
+            moments: w.moments,
+            pended: w.pended,
+        })
     }
 }
 
-// Finds the moments and the pended times of one key. `seedtimes` are the new run's own times. The input, old and new together, will not do for
+// Finds the moments and the pended times of one key; none if a limit was passed. `seedtimes` are the new run's own times. The input, old and new together, will not do for
 // them: it is consolidated once it is joined with m, so an old edit that m moves onto a new one may cancel it, and the new time would be missed.
 pub fn discover_key(
     upper: &[u64],
@@ -115,7 +117,7 @@ pub fn discover_key(
     places: &mut [u64],
     wvalues: &mut [u64],
     wdiffs: &mut [i64],
-) -> Found
+) -> Option<Found>
     requires { Lending seedtimes.now pending.now intimes.now invalues.now indiffs.now outtimes.now seeds.old times.old values.old diffs.old output.old meets.old waiting.old tracked.old moments.old pended.old work.old places.old wvalues.old wdiffs.old }
     ensures { Finds (discover upper.now seedtimes.now pending.now (edits intimes.now invalues.now indiffs.now) outtimes.now) moments.new pended.new result }
 {

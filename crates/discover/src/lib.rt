@@ -7,10 +7,9 @@ mod walks;
 
 pub use key::discover_key;
 
-// How many moments and pended times there are, and whether a limit was passed, in which case they mean nothing.
+// How many moments and pended times there are.
 #[derive(Clone, Copy)]
 pub struct Found {
     pub moments: usize,
     pub pended: usize,
-    pub over: bool,
 }

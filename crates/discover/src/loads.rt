@@ -7,13 +7,13 @@ ghost use Rattle.discover.specs.Finding.{Loading, all_meets};
 
 use edits::load_edits;
 use histories::{load_times, suffix_meets};
-use times::{Meet, meet_of, meets};
+use times::{PackedTime, meet_of, meets};
 
 // How many edits were loaded, and the meet of seeds and pending.
 #[derive(Clone, Copy)]
 pub struct Loaded {
     pub count: usize,
-    pub m: Meet,
+    pub m: Option<PackedTime>,
 }
 
 // Loads seeds, input and output.
@@ -37,7 +37,7 @@ pub fn load(
     ensures { Loading seedtimes.now pending.now (edits intimes.now invalues.now indiffs.now) (length intimes.now) outtimes.now seeds.new (edits times.new values.new diffs.new) output.new result }
 {
     let m = meets(seedtimes, meet_of(pending));
-    load_times(Meet::Absent, seedtimes, seeds, work);
+    load_times(None, seedtimes, seeds, work);
     load_times(m, outtimes, output, work);
     let count = load_edits(
         m, intimes, invalues, indiffs, work, places, times, values, diffs,

@@ -1,13 +1,13 @@
 -- discover_times as a call.
 --
--- publishes: what is left of what was found
 -- before-zero: where the status is 0 before any work, all that is lent is well. well_lent: so the work may begin
--- untouched: a status other than 0 before any work leaves memory as it was
+-- untouched: a refusal before any work leaves memory as it was
 -- room_kept: what was found fits its slices. discovered: what was found, and zeros elsewhere
+use Rattle.std.specs.Prelude.{Option, Some, None, Result, Err, IfOk}
 use Prim.Native.Nat.{ℕ, suc, ◌-◌, ◌*◌, ◌≤◌}
 use native.Mathlib.Omega.{arith}
 use native.Mathlib.Nat.{sub-zero}
-use mathlib.Core.Bool.{Bool, true, false, cond, ◌&&◌}
+use mathlib.Core.Bool.{Bool, true, false, ◌&&◌}
 use mathlib.Core.List.{List, [], ◌++◌}
 use mathlib.Core.Path.{◌≡◌, refl, sym, ◌∙◌, ap}
 use lib.Dec.{leb, eqb}
@@ -22,22 +22,18 @@ use Rattle.rules.specs.Memory.{leaves}
 use Rattle.rules.specs.Discover.{most_moments, State, discover}
 use Rattle.consolidation.specs.Entries.{mass}
 use Rattle.edits.specs.Edits.{edits}
-use Rattle.discovery.specs.Calls.{most_edits, meets_size, found_size, tracked_size, input_fits, load_room, found_room, work_room, lent_well, Answer, refused, answer_of, answer, status_before, kept_of, Publishes, Clears, Discovers}
-use Rattle.discover.specs.Finding.{Finds, Lending}
+use Rattle.discovery.specs.Calls.{most_edits, meets_size, found_size, tracked_size, input_fits, load_room, found_room, work_room, lent_well, Answer, refused, answer_of, answer, status_of, outcome, status_before, kept_of, moments_of, pended_of, published, Publishes, Clears, Discovers}
+use Rattle.discover.specs.Finding.{Finds, limited, counted, Lending}
 use Rattle.discover.specs.declared.Found.{Found}
-use Rattle.discovery.specs.declared.call.Discovered.{Discovered}
+use Rattle.discovery.specs.declared.call.Refusal.{Refusal}
+use Rattle.discovery.specs.declared.call.Refusal.TheVariants.{Lengths, Diffs, Limit}
 use Rattle.discover.proofs.Masses.{range_mass}
 use Rattle.discover.proofs.Limits.{finds_few}
 
-pub publishes : (f : Found) (moments pended : List ℕ) {moments' pended' : List ℕ} {s m p : ℕ} → s ≡ cond f.over 18 0 → m ≡ kept_of f.over f.moments → p ≡ kept_of f.over f.pended
-    → moments' ≡ take m moments ++ replicate (length moments - m) 0 → pended' ≡ take p pended ++ replicate (length pended - p) 0
-    → Publishes f moments pended moments' pended' (record { status = s; moments = m; pended = p })
-publishes f moments pended s m p a b = record { status_is = s; moments_counted = m; pended_counted = p; moments_are = rw m at a; pended_are = rw p at b }
-
-pub before-zero : (w : Bool) (ds : List ℤ) {s : ℕ} → s ≡ status_before w ds → s ≡ 0 → (w ≡ true) × (every in_range ds ≡ true)
+pub before-zero : (w : Bool) (ds : List ℤ) → 0 ≡ status_before w ds → (w ≡ true) × (every in_range ds ≡ true)
 unfolding status_before
-before-zero false ds e z = absurd (omega (arith, e, z))
-before-zero true ds {s} e z = (refl, by-test (every in_range ds) (λ r. r) (λ r. let q : s ≡ 14 = rw r at e in absurd (omega (arith, q, z))))
+before-zero false ds e = absurd (omega (arith, e))
+before-zero true ds e = (refl, by-test (every in_range ds) (λ r. r) (λ r. let q : 0 ≡ 14 = rw r at e in absurd (omega (arith, q))))
 
 -- ---- what is lent well
 module _ (seeds pending times values diffs output : ℕ) (h : input_fits seeds pending times values diffs output ≡ true) where
@@ -49,9 +45,9 @@ module _ (seeds pending times values diffs output : ℕ) (h : input_fits seeds p
     pub diffs-alike : diffs ≡ times
     pub output_few : output ≤ most_records
 
-  input_fits_lem : InputFits
+  input_fitted : InputFits
   unfolding input_fits
-  input_fits_lem =
+  input_fitted =
       let h₂ = and_r (leb seeds most_records) _ h in
       let h₃ = and_r (leb pending most_records) _ h₂ in
       let h₄ = and_r (leb times most_edits) _ h₃ in
@@ -74,9 +70,9 @@ module _ (seeds times values diffs output column : ℕ) (h : load_room seeds tim
     pub output_room : most_records ≤ output
     pub meets_room : meets_size ≤ column
 
-  load_room_lem : LoadRoom
+  load_roomy : LoadRoom
   unfolding load_room
-  load_room_lem =
+  load_roomy =
       let h₂ = and_r (leb most_records seeds) _ h in
       let h₃ = and_r (leb most_edits times) _ h₂ in
       let h₄ = and_r (eqb values times) _ h₃ in
@@ -97,9 +93,9 @@ module _ (waiting tracked moments pended : ℕ) (h : found_room waiting tracked 
     pub moments_room : found_size ≤ moments
     pub pended_room : found_size ≤ pended
 
-  found_room_lem : FoundRoom
+  found_roomy : FoundRoom
   unfolding found_room
-  found_room_lem =
+  found_roomy =
       let h₂ = and_r (leb found_size waiting) _ h in
       let h₃ = and_r (leb tracked_size tracked) _ h₂ in
       record {
@@ -112,20 +108,20 @@ module _ (waiting tracked moments pended : ℕ) (h : found_room waiting tracked 
 module _ (tracked work places wvalues wdiffs : ℕ) (h : work_room tracked work places wvalues wdiffs ≡ true) where
   record WorkRoom : Type 0 where
     pub for_tracked : tracked ≤ work
-    pub work_room_lem : most_edits ≤ work
+    pub room_work : most_edits ≤ work
     pub places_room : most_edits ≤ places
     pub values_room : most_edits ≤ wvalues
     pub diffs_room : most_edits ≤ wdiffs
 
-  work_room_lem : WorkRoom
+  work_roomy : WorkRoom
   unfolding work_room
-  work_room_lem =
+  work_roomy =
       let h₂ = and_r (leb tracked work) _ h in
       let h₃ = and_r (leb most_edits work) _ h₂ in
       let h₄ = and_r (leb most_edits places) _ h₃ in
       record {
         for_tracked = leb-true tracked work (and_l (leb tracked work) _ h);
-        work_room_lem = leb-true most_edits work (and_l (leb most_edits work) _ h₂);
+        room_work = leb-true most_edits work (and_l (leb most_edits work) _ h₂);
         places_room = leb-true most_edits places (and_l (leb most_edits places) _ h₃);
         values_room = leb-true most_edits wvalues (and_l (leb most_edits wvalues) _ h₄);
         diffs_room = leb-true most_edits wdiffs (and_r (leb most_edits wvalues) _ h₄);
@@ -138,10 +134,10 @@ module _ (seedtimes pending intimes invalues : List ℕ) (indiffs : List ℤ) (o
   well_lent (h, d) =
       let h₂ = and_r (input_fits (length seedtimes) (length pending) (length intimes) (length invalues) (length indiffs) (length outtimes)) _ h in
       let h₃ = and_r (load_room (length seeds) (length times) (length values) (length diffs) (length output) (length column)) _ h₂ in
-      let a = input_fits_lem (length seedtimes) (length pending) (length intimes) (length invalues) (length indiffs) (length outtimes) (and_l (input_fits (length seedtimes) (length pending) (length intimes) (length invalues) (length indiffs) (length outtimes)) _ h) in
-      let b = load_room_lem (length seeds) (length times) (length values) (length diffs) (length output) (length column) (and_l (load_room (length seeds) (length times) (length values) (length diffs) (length output) (length column)) _ h₂) in
-      let c = found_room_lem (length waiting) (length tracked) (length moments) (length pended) (and_l (found_room (length waiting) (length tracked) (length moments) (length pended)) _ h₃) in
-      let e = work_room_lem (length tracked) (length work) (length places) (length wvalues) (length wdiffs) (and_r (found_room (length waiting) (length tracked) (length moments) (length pended)) _ h₃) in
+      let a = input_fitted (length seedtimes) (length pending) (length intimes) (length invalues) (length indiffs) (length outtimes) (and_l (input_fits (length seedtimes) (length pending) (length intimes) (length invalues) (length indiffs) (length outtimes)) _ h) in
+      let b = load_roomy (length seeds) (length times) (length values) (length diffs) (length output) (length column) (and_l (load_room (length seeds) (length times) (length values) (length diffs) (length output) (length column)) _ h₂) in
+      let c = found_roomy (length waiting) (length tracked) (length moments) (length pended) (and_l (found_room (length waiting) (length tracked) (length moments) (length pended)) _ h₃) in
+      let e = work_roomy (length tracked) (length work) (length places) (length wvalues) (length wdiffs) (and_r (found_room (length waiting) (length tracked) (length moments) (length pended)) _ h₃) in
       let a₁ : length seedtimes ≤ most_records = a.seeds_few in
       let a₂ : length pending ≤ most_records = a.pending_few in
       let a₃ : length intimes ≤ most_edits = a.times_few in
@@ -155,7 +151,7 @@ module _ (seedtimes pending intimes invalues : List ℕ) (indiffs : List ℤ) (o
       let c₂ : tracked_size ≤ length tracked = c.tracked_room in
       let c₃ : found_size ≤ length moments = c.moments_room in
       let c₄ : found_size ≤ length pended = c.pended_room in
-      let e₁ : most_edits ≤ length work = e.work_room_lem in
+      let e₁ : most_edits ≤ length work = e.room_work in
       let e₂ : most_edits ≤ length places = e.places_room in
       let e₃ : most_edits ≤ length wvalues = e.values_room in
       let e₄ : most_edits ≤ length wdiffs = e.diffs_room in
@@ -184,35 +180,44 @@ module _ (seedtimes pending intimes invalues : List ℕ) (indiffs : List ℤ) (o
 
 -- ---- the answers
 module _ (upper seedtimes pending intimes invalues : List ℕ) (indiffs : List ℤ) (outtimes : List ℕ) (seeds times values : List ℕ) (diffs : List ℤ) (output column waiting tracked moments pended work places wvalues : List ℕ) (wdiffs : List ℤ) where
-  pub untouched : (w : Bool) {s : ℕ} → s ≡ status_before w indiffs → (s ≡ 0 → ⊥) → Discovers (answer w upper seedtimes pending intimes invalues indiffs outtimes) seeds times values diffs output column waiting tracked moments pended work places wvalues wdiffs seeds times values diffs output column waiting tracked moments pended work places wvalues wdiffs (record { status = s; moments = 0; pended = 0 })
-  unfolding status_before answer refused leaves
-  untouched false e z = record { status_is = e; moments_counted = refl; pended_counted = refl; moments_are = refl; pended_are = refl; seeds_left = refl; times_left = refl; values_left = refl; diffs_left = refl; output_left = refl; meets_left = refl; waiting_left = refl; tracked_left = refl; work_left = refl; places_left = refl; wvalues_left = refl; wdiffs_left = refl }
-  untouched true e z =
-      by-test (every in_range indiffs) (λ r. absurd (z (rw r at e)))
-      (λ r. rw r (record { status_is = rw r at e; moments_counted = refl; pended_counted = refl; moments_are = refl; pended_are = refl; seeds_left = refl; times_left = refl; values_left = refl; diffs_left = refl; output_left = refl; meets_left = refl; waiting_left = refl; tracked_left = refl; work_left = refl; places_left = refl; wvalues_left = refl; wdiffs_left = refl }))
+  refuses : (e : Refusal) → status_of e ≡ 0 → ⊥
+  refuses Lengths z = omega (arith, z)
+  refuses Diffs z = omega (arith, z)
+  refuses Limit z = omega (arith, z)
 
-pub room_kept : (upper : List ℕ) {seedtimes pending intimes invalues : List ℕ} {indiffs : List ℤ} {outtimes seeds times values : List ℕ} {diffs : List ℤ} {output column waiting tracked moments pended work places wvalues : List ℕ} {wdiffs : List ℤ} {moments₁ pended₁ : List ℕ} {f : Found}
+  pub untouched : (w : Bool) (e : Refusal) → status_of e ≡ status_before w indiffs → Discovers (answer w upper seedtimes pending intimes invalues indiffs outtimes) seeds times values diffs output column waiting tracked moments pended work places wvalues wdiffs seeds times values diffs output column waiting tracked moments pended work places wvalues wdiffs (Err e)
+  unfolding status_before answer refused leaves
+  untouched false e z = record { status_is = z; moments_counted = tt; pended_counted = tt; moments_are = refl; pended_are = refl; seeds_left = refl; times_left = refl; values_left = refl; diffs_left = refl; output_left = refl; meets_left = refl; waiting_left = refl; tracked_left = refl; work_left = refl; places_left = refl; wvalues_left = refl; wdiffs_left = refl }
+  untouched true e z =
+      by-test (every in_range indiffs) (λ r. absurd (refuses e (rw r at z)))
+      (λ r. rw r (record { status_is = rw r at z; moments_counted = tt; pended_counted = tt; moments_are = refl; pended_are = refl; seeds_left = refl; times_left = refl; values_left = refl; diffs_left = refl; output_left = refl; meets_left = refl; waiting_left = refl; tracked_left = refl; work_left = refl; places_left = refl; wvalues_left = refl; wdiffs_left = refl }))
+
+pub room_kept : (upper : List ℕ) {seedtimes pending intimes invalues : List ℕ} {indiffs : List ℤ} {outtimes seeds times values : List ℕ} {diffs : List ℤ} {output column waiting tracked moments pended work places wvalues : List ℕ} {wdiffs : List ℤ} {moments₁ pended₁ : List ℕ} {f : Option Found}
     → Lending seedtimes pending intimes invalues indiffs outtimes seeds times values diffs output column waiting tracked moments pended work places wvalues wdiffs
     → Finds (discover upper seedtimes pending (edits intimes invalues indiffs) outtimes) moments₁ pended₁ f → length moments₁ ≡ length moments → length pended₁ ≡ length pended
-    → (kept_of f.over f.moments ≤ length moments₁) × (kept_of f.over f.pended ≤ length pended₁)
-room_kept upper {seedtimes} {pending} {intimes} {invalues} {indiffs} {outtimes} {moments = moments} {pended = pended₀} {moments₁ = moments₁} {pended₁ = pended₁} {f = f} L h a b =
+    → (kept_of moments_of f ≤ length moments₁) × (kept_of pended_of f ≤ length pended₁)
+room_kept upper L (limited o) a b = (omega arith, omega arith)
+room_kept upper {seedtimes} {pending} {intimes} {invalues} {indiffs} {outtimes} {moments = moments} {pended = pended₀} {moments₁ = moments₁} {pended₁ = pended₁} L (counted f o n q) a b =
     let m : suc most_moments ≤ length moments = L.moments_room in
     let p : suc most_moments ≤ length pended₀ = L.pended_room in
-    by-test f.over (λ o. rw o (omega arith, omega arith))
-    (λ o. let q = finds_few upper seedtimes pending (edits intimes invalues indiffs) outtimes h (omega arith) (omega arith) o in rw o (omega (arith, q.0), omega (arith, q.1)))
+    let r = finds_few upper seedtimes pending (edits intimes invalues indiffs) outtimes (counted f o n q) (omega arith) (omega arith) in
+    (omega (arith, r.0), omega (arith, r.1))
 
 -- what was found, told as an answer
-record Told (f : Found) (moments pended : List ℕ) (A : Answer) : Type 0 where
-  pub status_is : cond f.over 18 0 ≡ A.status
+record Told (f : Option Found) (moments pended : List ℕ) (A : Answer) : Type 0 where
+  pub status_is : outcome (published f) ≡ A.status
   pub touched : (leb 11 A.status && leb A.status 17) ≡ false
-  pub moments_are : take (kept_of f.over f.moments) moments ≡ A.moments
-  pub pended_are : take (kept_of f.over f.pended) pended ≡ A.pended
+  pub moments_are : take (kept_of moments_of f) moments ≡ A.moments
+  pub pended_are : take (kept_of pended_of f) pended ≡ A.pended
 
-told : {D : State} {moments pended : List ℕ} {f : Found} → Finds D moments pended f → Told f moments pended (answer_of D)
+told : {D : State} {moments pended : List ℕ} {f : Option Found} → Finds D moments pended f → Told f moments pended (answer_of D)
 unfolding answer_of refused
-told {D} {f = f} h =
-    by-test D.over (λ o. rw (h.over_is, o) (record { status_is = refl; touched = refl; moments_are = refl; pended_are = refl }))
-    (λ o. let u : f.over ≡ false = h.over_is ∙ o in rw (u, o) (record { status_is = refl; touched = refl; moments_are = h.moments_are u; pended_are = h.pended_are u }))
+told (limited o) = rw o (record { status_is = refl; touched = refl; moments_are = refl; pended_are = refl })
+told (counted f o m p) = rw o (record { status_is = refl; touched = refl; moments_are = m; pended_are = p })
+
+counts : (n : Found → ℕ) (f : Option Found) {k : ℕ} → kept_of n f ≡ k → IfOk (published f) (λ g. n g ≡ k)
+counts n None e = tt
+counts n (Some g) e = e
 
 module _ (A : Answer) (t : (leb 11 A.status && leb A.status 17) ≡ false) where
   left_zero : {X : Type 0} (z : X) (s s₁ s' : List X) → length s₁ ≡ length s → s' ≡ replicate (length s₁) z → s' ≡ leaves z A.status s []
@@ -225,19 +230,19 @@ module _ (A : Answer) (t : (leb 11 A.status && leb A.status 17) ≡ false) where
       let n : k ≡ length xs = sym (length-take-le k s₁ h) ∙ ap length e in
       (n, q ∙ rw (t, e, l, n))
 
-  discovered_at : {f : Found} {seeds times values : List ℕ} {diffs : List ℤ} {output column waiting tracked moments pended work places wvalues : List ℕ} {wdiffs : List ℤ} {seeds₁ times₁ values₁ : List ℕ} (diffs₁ : List ℤ) {output₁ column₁ waiting₁ tracked₁ moments₁ pended₁ work₁ places₁ wvalues₁ : List ℕ} (wdiffs₁ : List ℤ) {seeds' times' values' : List ℕ} {diffs' : List ℤ} {output' column' waiting' tracked' moments' pended' work' places' wvalues' : List ℕ} {wdiffs' : List ℤ} {r : Discovered}
-      → Told f moments₁ pended₁ A → (kept_of f.over f.moments ≤ length moments₁) × (kept_of f.over f.pended ≤ length pended₁)
+  discovered_at : {f : Option Found} {seeds times values : List ℕ} {diffs : List ℤ} {output column waiting tracked moments pended work places wvalues : List ℕ} {wdiffs : List ℤ} {seeds₁ times₁ values₁ : List ℕ} (diffs₁ : List ℤ) {output₁ column₁ waiting₁ tracked₁ moments₁ pended₁ work₁ places₁ wvalues₁ : List ℕ} (wdiffs₁ : List ℤ) {seeds' times' values' : List ℕ} {diffs' : List ℤ} {output' column' waiting' tracked' moments' pended' work' places' wvalues' : List ℕ} {wdiffs' : List ℤ} {r : Result Found Refusal}
+      → Told f moments₁ pended₁ A → (kept_of moments_of f ≤ length moments₁) × (kept_of pended_of f ≤ length pended₁)
       → length seeds₁ ≡ length seeds → length times₁ ≡ length times → length values₁ ≡ length values → length diffs₁ ≡ length diffs → length output₁ ≡ length output → length column₁ ≡ length column → length waiting₁ ≡ length waiting → length tracked₁ ≡ length tracked → length moments₁ ≡ length moments → length pended₁ ≡ length pended → length work₁ ≡ length work → length places₁ ≡ length places → length wvalues₁ ≡ length wvalues → length wdiffs₁ ≡ length wdiffs
       → Publishes f moments₁ pended₁ moments' pended' r → Clears seeds₁ output₁ column₁ waiting₁ tracked₁ seeds' output' column' waiting' tracked' → Clears times₁ values₁ work₁ places₁ wvalues₁ times' values' work' places' wvalues'
       → (diffs' ≡ replicate (length diffs₁) (pos 0)) × (wdiffs' ≡ replicate (length wdiffs₁) (pos 0))
       → Discovers A seeds times values diffs output column waiting tracked moments pended work places wvalues wdiffs seeds' times' values' diffs' output' column' waiting' tracked' moments' pended' work' places' wvalues' wdiffs' r
   discovered_at {f} {seeds} {times} {values} {diffs} {output} {column} {waiting} {tracked} {moments} {pended} {work} {places} {wvalues} {wdiffs} {seeds₁} {times₁} {values₁} diffs₁ {output₁} {column₁} {waiting₁} {tracked₁} {moments₁} {pended₁} {work₁} {places₁} {wvalues₁} wdiffs₁ {seeds'} {times'} {values'} {diffs'} {output'} {column'} {waiting'} {tracked'} {moments'} {pended'} {work'} {places'} {wvalues'} {wdiffs'} T K l-seeds l-times l-values l-diffs l-output l-column l-waiting l-tracked l-moments l-pended l-work l-places l-wvalues l-wdiffs P C₁ C₂ Z =
-      let m = left_found moments moments₁ moments' A.moments (kept_of f.over f.moments) l-moments K.0 T.moments_are P.moments_are in
-      let p = left_found pended pended₁ pended' A.pended (kept_of f.over f.pended) l-pended K.1 T.pended_are P.pended_are in
+      let m = left_found moments moments₁ moments' A.moments (kept_of moments_of f) l-moments K.0 T.moments_are P.moments_are in
+      let p = left_found pended pended₁ pended' A.pended (kept_of pended_of f) l-pended K.1 T.pended_are P.pended_are in
       record {
-        status_is = P.status_is ∙ T.status_is;
-        moments_counted = P.moments_counted ∙ m.0;
-        pended_counted = P.pended_counted ∙ p.0;
+        status_is = ap outcome P.result_is ∙ T.status_is;
+        moments_counted = rw P.result_is (counts moments_of f m.0);
+        pended_counted = rw P.result_is (counts pended_of f p.0);
         moments_are = m.1;
         pended_are = p.1;
         seeds_left = left_zero 0 seeds seeds₁ seeds' l-seeds C₁.first;
@@ -259,9 +264,9 @@ module _ (upper seedtimes pending intimes invalues : List ℕ) (indiffs : List �
   unfolding answer
   answer_is w h = rw (h.0, h.1)
 
-  pub discovered : (w : Bool) {f : Found} {seeds times values : List ℕ} {diffs : List ℤ} {output column waiting tracked moments pended work places wvalues : List ℕ} {wdiffs : List ℤ} {seeds₁ times₁ values₁ : List ℕ} (diffs₁ : List ℤ) {output₁ column₁ waiting₁ tracked₁ moments₁ pended₁ work₁ places₁ wvalues₁ : List ℕ} (wdiffs₁ : List ℤ) {seeds' times' values' : List ℕ} {diffs' : List ℤ} {output' column' waiting' tracked' moments' pended' work' places' wvalues' : List ℕ} {wdiffs' : List ℤ} {r : Discovered}
+  pub discovered : (w : Bool) {f : Option Found} {seeds times values : List ℕ} {diffs : List ℤ} {output column waiting tracked moments pended work places wvalues : List ℕ} {wdiffs : List ℤ} {seeds₁ times₁ values₁ : List ℕ} (diffs₁ : List ℤ) {output₁ column₁ waiting₁ tracked₁ moments₁ pended₁ work₁ places₁ wvalues₁ : List ℕ} (wdiffs₁ : List ℤ) {seeds' times' values' : List ℕ} {diffs' : List ℤ} {output' column' waiting' tracked' moments' pended' work' places' wvalues' : List ℕ} {wdiffs' : List ℤ} {r : Result Found Refusal}
       → (w ≡ true) × (every in_range indiffs ≡ true) → Finds (discover upper seedtimes pending (edits intimes invalues indiffs) outtimes) moments₁ pended₁ f
-      → (kept_of f.over f.moments ≤ length moments₁) × (kept_of f.over f.pended ≤ length pended₁)
+      → (kept_of moments_of f ≤ length moments₁) × (kept_of pended_of f ≤ length pended₁)
       → length seeds₁ ≡ length seeds → length times₁ ≡ length times → length values₁ ≡ length values → length diffs₁ ≡ length diffs → length output₁ ≡ length output → length column₁ ≡ length column → length waiting₁ ≡ length waiting → length tracked₁ ≡ length tracked → length moments₁ ≡ length moments → length pended₁ ≡ length pended → length work₁ ≡ length work → length places₁ ≡ length places → length wvalues₁ ≡ length wvalues → length wdiffs₁ ≡ length wdiffs
       → Publishes f moments₁ pended₁ moments' pended' r → Clears seeds₁ output₁ column₁ waiting₁ tracked₁ seeds' output' column' waiting' tracked' → Clears times₁ values₁ work₁ places₁ wvalues₁ times' values' work' places' wvalues'
       → (diffs' ≡ replicate (length diffs₁) (pos 0)) × (wdiffs' ≡ replicate (length wdiffs₁) (pos 0))

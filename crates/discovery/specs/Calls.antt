@@ -6,16 +6,18 @@
 --
 -- input_fits: seeds, pending, input and output are within their sizes. load_room, found_room, work_room: so is memory. lent_well: all of this
 -- Answer: a status, moments and pended times. refused: without times. answer_of: of what was found. answer: the answer to a call, given whether all is as long as it must be. status_before: what is known before any work
--- kept_of over n: how many of n found times are kept
+-- status_of, outcome: the number of a status, of a refusal and of an answer
+-- kept_of n f: how many of the n found times are kept. published: what was found, as an answer
 -- Publishes: moments and pended times, with zeros after them. Clears: slices of zeros. Discovers: the whole call, and what each slice holds afterwards
-use Rattle.std.specs.Prelude.{ℕ, ◌-◌, Bool, cond, ◌&&◌, List, [], ◌++◌, ◌≡◌, leb, eqb, ℤ, pos, length, take, replicate}
+use Rattle.std.specs.Prelude.{Option, Some, None, Result, Ok, Err, IfOk, ℕ, ◌-◌, Bool, cond, ◌&&◌, List, [], ◌++◌, ◌≡◌, leb, eqb, ℤ, pos, length, take, replicate}
 use Rattle.grid.specs.Lists.{every}
 use Rattle.grid.specs.Records.{most_records, in_range}
 use Rattle.rules.specs.Discover.{State, discover}
 use Rattle.rules.specs.Memory.{leaves}
 use Rattle.edits.specs.Edits.{edits}
 use Rattle.discover.specs.declared.Found.{Found}
-use Rattle.discovery.specs.declared.call.Discovered.{Discovered}
+use Rattle.discovery.specs.declared.call.Refusal.{Refusal}
+use Rattle.discovery.specs.declared.call.Refusal.TheVariants.{Lengths, Diffs, Limit}
 
 -- ---- sizes
 -- the most edits of a key's input, old and new
@@ -73,15 +75,36 @@ answer well upper seedtimes pending intimes invalues indiffs outtimes =
 unfoldable pub status_before : Bool → List ℤ → ℕ
 status_before well indiffs = cond well (cond (every in_range indiffs) 0 14) 11
 
-abbrev pub kept_of : Bool → ℕ → ℕ
-kept_of over n = cond over 0 n
+-- the number of a refusal's status
+abbrev pub status_of : Refusal → ℕ
+status_of Lengths = 11
+status_of Diffs = 14
+status_of Limit = 18
 
-pub record Publishes (f : Found) (moments pended moments' pended' : List ℕ) (r : Discovered) : Type 0 where
-  pub status_is : r.status ≡ cond f.over 18 0
-  pub moments_counted : r.moments ≡ kept_of f.over f.moments
-  pub pended_counted : r.pended ≡ kept_of f.over f.pended
-  pub moments_are : moments' ≡ take (kept_of f.over f.moments) moments ++ replicate (length moments - kept_of f.over f.moments) 0
-  pub pended_are : pended' ≡ take (kept_of f.over f.pended) pended ++ replicate (length pended - kept_of f.over f.pended) 0
+-- the status of an answer; 0 where there is one
+abbrev pub outcome : {A : Type 0} → Result A Refusal → ℕ
+outcome (Ok x) = 0
+outcome (Err e) = status_of e
+
+abbrev pub moments_of : Found → ℕ
+moments_of f = f.moments
+
+abbrev pub pended_of : Found → ℕ
+pended_of f = f.pended
+
+abbrev pub kept_of : (Found → ℕ) → Option Found → ℕ
+kept_of n None = 0
+kept_of n (Some f) = n f
+
+-- what was found, as the answer to a call
+abbrev pub published : Option Found → Result Found Refusal
+published None = Err Limit
+published (Some f) = Ok f
+
+pub record Publishes (f : Option Found) (moments pended moments' pended' : List ℕ) (r : Result Found Refusal) : Type 0 where
+  pub result_is : r ≡ published f
+  pub moments_are : moments' ≡ take (kept_of moments_of f) moments ++ replicate (length moments - kept_of moments_of f) 0
+  pub pended_are : pended' ≡ take (kept_of pended_of f) pended ++ replicate (length pended - kept_of pended_of f) 0
 
 pub record Clears (a b c d e a' b' c' d' e' : List ℕ) : Type 0 where
   pub first : a' ≡ replicate (length a) 0
@@ -94,10 +117,10 @@ pub record Clears (a b c d e a' b' c' d' e' : List ℕ) : Type 0 where
 pub record Discovers (A : Answer)
     (seeds times values : List ℕ) (diffs : List ℤ) (output column waiting tracked moments pended work places wvalues : List ℕ) (wdiffs : List ℤ)
     (seeds' times' values' : List ℕ) (diffs' : List ℤ) (output' column' waiting' tracked' moments' pended' work' places' wvalues' : List ℕ) (wdiffs' : List ℤ)
-    (r : Discovered) : Type 0 where
-  pub status_is : r.status ≡ A.status
-  pub moments_counted : r.moments ≡ length A.moments
-  pub pended_counted : r.pended ≡ length A.pended
+    (r : Result Found Refusal) : Type 0 where
+  pub status_is : outcome r ≡ A.status
+  pub moments_counted : IfOk r (λ f. f.moments ≡ length A.moments)
+  pub pended_counted : IfOk r (λ f. f.pended ≡ length A.pended)
   pub moments_are : moments' ≡ leaves 0 A.status moments A.moments
   pub pended_are : pended' ≡ leaves 0 A.status pended A.pended
   pub seeds_left : seeds' ≡ leaves 0 A.status seeds []

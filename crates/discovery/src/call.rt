@@ -1,80 +1,71 @@
 // discover_times as a call: lengths and diffs are tested, one key's times are found, and the work memory is cleared.
-ghost use Rattle.std.specs.Prelude.{cond, ◌≡◌, ◌≤◌, pos, length, replicate};
-ghost use Rattle.discovery.specs.Calls.{lent_well, answer, status_before, kept_of, Publishes, Clears, Discovers};
+ghost use Rattle.std.specs.Prelude.{◌≡◌, ◌≤◌, pos, length, replicate};
+ghost use Rattle.discovery.specs.Calls.{lent_well, answer, status_of, outcome, status_before, kept_of, moments_of, pended_of, Publishes, Clears, Discovers};
 
 use crate::sizes::is_lent_well;
 use diffs::are_in_range;
 use discover::{Found, discover_key};
-use slices::{clear, clear_diffs, clear_from};
 
-// The status, and how many moments and pended times there are.
-#[derive(Clone, Copy)]
-pub struct Discovered {
-    pub status: u64,
-    pub moments: usize,
-    pub pended: usize,
+// Why there is no answer.
+#[derive(Clone, Copy, PartialEq, Eq, Debug)]
+pub enum Refusal {
+    // What is lent is not as long as it must be.
+    Lengths,
+    // A diff is out of range.
+    Diffs,
+    // A limit was passed.
+    Limit,
 }
 
-// 11 if what is lent is not as long as it must be, 14 if a diff is out of range.
-fn status_before(well: bool, indiffs: &[i64]) -> u64
-    ensures { result ≡ status_before well indiffs.now }
+impl Refusal {
+    // The number of its status.
+    pub fn status(self) -> u64
+        ensures { result ≡ status_of self }
+    {
+        match self {
+            Refusal::Lengths => 11,
+            Refusal::Diffs => 14,
+            Refusal::Limit => 18,
+        }
+    }
+}
+
+// What is known before any work.
+#[tactic(auto, using(std::proofs::lemmas::Bool::Decides::nat_tests), unfolding(crate::specs::Calls::status_before))]
+fn check(well: bool, indiffs: &[i64]) -> Result<(), Refusal>
+    ensures { outcome result ≡ status_before well indiffs.now }
 {
     if !well {
-        return 11;
+        Err(Refusal::Lengths)
+    } else if !are_in_range(indiffs) {
+        Err(Refusal::Diffs)
+    } else {
+        Ok(())
     }
-    if are_in_range(indiffs) {
-        return 0;
-    }
-    14
-}
-
-fn kept(over: bool, count: usize) -> usize
-    ensures { result ≡ kept_of over count }
-{
-    if over {
-        return 0;
-    }
-    count
-}
-
-fn status_after(over: bool) -> u64
-    ensures { result ≡ cond over 18 0 }
-{
-    if over {
-        return 18;
-    }
-    0
 }
 
 // Leaves what was found and zeros after it, or zeros alone if a limit was passed.
-fn publish(f: Found, moments: &mut [u64], pended: &mut [u64]) -> Discovered
-    requires { (kept_of f.over f.moments ≤ length moments.old) × (kept_of f.over f.pended ≤ length pended.old) }
+fn publish(f: Option<Found>, moments: &mut [u64], pended: &mut [u64]) -> Result<Found, Refusal>
+    requires { (kept_of moments_of f ≤ length moments.old) × (kept_of pended_of f ≤ length pended.old) }
     ensures { Publishes f moments.old pended.old moments.new pended.new result }
 {
-    let m = kept(f.over, f.moments);
-    let p = kept(f.over, f.pended);
-    clear_from(moments, m);
-    clear_from(pended, p);
-    Discovered {
-        status: status_after(f.over),
-        moments: m,
-        pended: p,
+    match f {
+        Some(found) => {
+            moments[found.moments..].fill(0);
+            pended[found.pended..].fill(0);
+            Ok(found)
+        }
+        None => {
+            moments.fill(0);
+            pended.fill(0);
+            Err(Refusal::Limit)
+        }
     }
-}
-
-fn clear_five(a: &mut [u64], b: &mut [u64], c: &mut [u64], d: &mut [u64], e: &mut [u64])
-    ensures { Clears a.old b.old c.old d.old e.old a.new b.new c.new d.new e.new }
-{
-    clear(a);
-    clear(b);
-    clear(c);
-    clear(d);
-    clear(e);
 }
 
 // Leaves what was found, and zeros elsewhere.
 fn clear_all(
-    f: Found,
+    f: Option<Found>,
     seeds: &mut [u64],
     times: &mut [u64],
     values: &mut [u64],
@@ -89,22 +80,30 @@ fn clear_all(
     places: &mut [u64],
     wvalues: &mut [u64],
     wdiffs: &mut [i64],
-) -> Discovered
-    requires { (kept_of f.over f.moments ≤ length moments.old) × (kept_of f.over f.pended ≤ length pended.old) }
+) -> Result<Found, Refusal>
+    requires { (kept_of moments_of f ≤ length moments.old) × (kept_of pended_of f ≤ length pended.old) }
     ensures publishes { Publishes f moments.old pended.old moments.new pended.new result }
     ensures clears { Clears seeds.old output.old meets.old waiting.old tracked.old seeds.new output.new meets.new waiting.new tracked.new }
-    ensures clears_2 { Clears times.old values.old work.old places.old wvalues.old times.new values.new work.new places.new wvalues.new }
+    ensures clears_input_and_work { Clears times.old values.old work.old places.old wvalues.old times.new values.new work.new places.new wvalues.new }
     ensures diffs_after { (diffs.new ≡ replicate (length diffs.old) (pos 0)) × (wdiffs.new ≡ replicate (length wdiffs.old) (pos 0)) }
 {
-    clear_five(seeds, output, meets, waiting, tracked);
-    clear_five(times, values, work, places, wvalues);
-    clear_diffs(diffs);
-    clear_diffs(wdiffs);
+    seeds.fill(0);
+    output.fill(0);
+    meets.fill(0);
+    waiting.fill(0);
+    tracked.fill(0);
+    times.fill(0);
+    values.fill(0);
+    work.fill(0);
+    places.fill(0);
+    wvalues.fill(0);
+    diffs.fill(0);
+    wdiffs.fill(0);
     publish(f, moments, pended)
 }
 
-// The moments and the pended times of one key. 11: what is lent is not as long as it must be, 14: a diff is out of range; memory is untouched. 18: a limit was
-// passed; all memory is cleared. 0: moments and pended times stand at the front of their slices, and zeros everywhere else.
+// The moments and the pended times of one key. They stand at the front of their slices, and zeros everywhere else. Where what is lent is not as long as it
+// must be, or a diff is out of range, memory is untouched; where a limit was passed, all memory is cleared.
 pub fn discover_times(
     upper: &[u64],
     seedtimes: &[u64],
@@ -127,7 +126,7 @@ pub fn discover_times(
     places: &mut [u64],
     wvalues: &mut [u64],
     wdiffs: &mut [i64],
-) -> Discovered
+) -> Result<Found, Refusal>
     ensures { Discovers (answer (lent_well (length seedtimes.now) (length pending.now) (length intimes.now) (length invalues.now) (length indiffs.now) (length outtimes.now) (length seeds.old) (length times.old) (length values.old) (length diffs.old) (length output.old) (length meets.old) (length waiting.old) (length tracked.old) (length moments.old) (length pended.old) (length work.old) (length places.old) (length wvalues.old) (length wdiffs.old)) upper.now seedtimes.now pending.now intimes.now invalues.now indiffs.now outtimes.now) seeds.old times.old values.old diffs.old output.old meets.old waiting.old tracked.old moments.old pended.old work.old places.old wvalues.old wdiffs.old seeds.new times.new values.new diffs.new output.new meets.new waiting.new tracked.new moments.new pended.new work.new places.new wvalues.new wdiffs.new result }
 {
     let well = is_lent_well(
@@ -152,14 +151,7 @@ pub fn discover_times(
         wvalues.len(),
         wdiffs.len(),
     );
-    let status = status_before(well, indiffs);
-    if status != 0 {
-        return Discovered {
-            status,
-            moments: 0,
-            pended: 0,
-        };
-    }
+    check(well, indiffs)?;
     let f = discover_key(
         upper, seedtimes, pending, intimes, invalues, indiffs, outtimes, seeds, times, values,
         diffs, output, meets, waiting, tracked, moments, pended, work, places, wvalues, wdiffs,

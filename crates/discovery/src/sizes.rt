@@ -1,5 +1,5 @@
 // 11: "unequal column lengths, lent memory too short". The sizes of what is lent.
-ghost use Rattle.std.specs.Prelude.{◌&&◌, ◌≡◌};
+ghost use Rattle.std.specs.Prelude.{◌≡◌};
 ghost use Rattle.discovery.specs.Calls.{input_fits, load_room, found_room, work_room, lent_well};
 
 // The most seeds, pending times and output times.
@@ -17,6 +17,8 @@ pub const FOUND_SIZE: usize = 1025;
 // How long the column of tracked times is: the pending times, and one for each moment.
 pub const TRACKED_SIZE: usize = 5121;
 
+// The input is within its sizes.
+#[tactic(auto, using(std::proofs::lemmas::Bool::Decides::nat_tests), unfolding(crate::specs::Calls::input_fits))]
 fn input_fits(
     seeds: usize,
     pending: usize,
@@ -27,24 +29,16 @@ fn input_fits(
 ) -> bool
     ensures { result ≡ input_fits seeds pending times values diffs output }
 {
-    if seeds > MOST_RECORDS {
-        return false;
-    }
-    if pending > MOST_RECORDS {
-        return false;
-    }
-    if times > MOST_EDITS {
-        return false;
-    }
-    if values != times {
-        return false;
-    }
-    if diffs != times {
-        return false;
-    }
-    output <= MOST_RECORDS
+    seeds <= MOST_RECORDS
+        && pending <= MOST_RECORDS
+        && times <= MOST_EDITS
+        && values == times
+        && diffs == times
+        && output <= MOST_RECORDS
 }
 
+// There is room for all that is loaded.
+#[tactic(auto, using(std::proofs::lemmas::Bool::Decides::nat_tests), unfolding(crate::specs::Calls::load_room))]
 fn has_load_room(
     seeds: usize,
     times: usize,
@@ -55,74 +49,39 @@ fn has_load_room(
 ) -> bool
     ensures { result ≡ load_room seeds times values diffs output column }
 {
-    if seeds < MOST_RECORDS {
-        return false;
-    }
-    if times < MOST_EDITS {
-        return false;
-    }
-    if values != times {
-        return false;
-    }
-    if diffs != times {
-        return false;
-    }
-    if output < MOST_RECORDS {
-        return false;
-    }
-    column >= MEETS_SIZE
+    MOST_RECORDS <= seeds
+        && MOST_EDITS <= times
+        && values == times
+        && diffs == times
+        && MOST_RECORDS <= output
+        && MEETS_SIZE <= column
 }
 
+// There is room for all that is found.
+#[tactic(auto, using(std::proofs::lemmas::Bool::Decides::nat_tests), unfolding(crate::specs::Calls::found_room))]
 fn has_found_room(waiting: usize, tracked: usize, moments: usize, pended: usize) -> bool
     ensures { result ≡ found_room waiting tracked moments pended }
 {
-    if waiting < FOUND_SIZE {
-        return false;
-    }
-    if tracked < TRACKED_SIZE {
-        return false;
-    }
-    if moments < FOUND_SIZE {
-        return false;
-    }
-    pended >= FOUND_SIZE
+    FOUND_SIZE <= waiting
+        && TRACKED_SIZE <= tracked
+        && FOUND_SIZE <= moments
+        && FOUND_SIZE <= pended
 }
 
-// The work slice is as long as the tracked times, which are sorted there.
+// There is room to work in. The work slice is as long as the tracked times, which are sorted there.
+#[tactic(auto, using(std::proofs::lemmas::Bool::Decides::nat_tests), unfolding(crate::specs::Calls::work_room))]
 fn has_work_room(tracked: usize, work: usize, places: usize, wvalues: usize, wdiffs: usize) -> bool
     ensures { result ≡ work_room tracked work places wvalues wdiffs }
 {
-    if work < tracked {
-        return false;
-    }
-    if work < MOST_EDITS {
-        return false;
-    }
-    if places < MOST_EDITS {
-        return false;
-    }
-    if wvalues < MOST_EDITS {
-        return false;
-    }
-    wdiffs >= MOST_EDITS
-}
-
-fn all_four(a: bool, b: bool, c: bool, d: bool) -> bool
-    ensures { result ≡ (a && (b && (c && d))) }
-{
-    if !a {
-        return false;
-    }
-    if !b {
-        return false;
-    }
-    if !c {
-        return false;
-    }
-    d
+    tracked <= work
+        && MOST_EDITS <= work
+        && MOST_EDITS <= places
+        && MOST_EDITS <= wvalues
+        && MOST_EDITS <= wdiffs
 }
 
 // Whether all that is lent is as long as it must be.
+#[tactic(auto, using(std::proofs::lemmas::Bool::Decides::nat_tests), unfolding(crate::specs::Calls::lent_well))]
 pub fn is_lent_well(
     seedtimes: usize,
     pending: usize,
@@ -147,9 +106,8 @@ pub fn is_lent_well(
 ) -> bool
     ensures { result ≡ lent_well seedtimes pending intimes invalues indiffs outtimes seeds times values diffs output meets waiting tracked moments pended work places wvalues wdiffs }
 {
-    let a = input_fits(seedtimes, pending, intimes, invalues, indiffs, outtimes);
-    let b = has_load_room(seeds, times, values, diffs, output, meets);
-    let c = has_found_room(waiting, tracked, moments, pended);
-    let d = has_work_room(tracked, work, places, wvalues, wdiffs);
-    all_four(a, b, c, d)
+    input_fits(seedtimes, pending, intimes, invalues, indiffs, outtimes)
+        && has_load_room(seeds, times, values, diffs, output, meets)
+        && has_found_room(waiting, tracked, moments, pended)
+        && has_work_room(tracked, work, places, wvalues, wdiffs)
 }

@@ -1,22 +1,23 @@
--- Putting a time into a set at the place that halving finds.
+-- Putting a time into a set where halving finds its place.
 --
--- place_of: how many elements at the front are less than t. place_within: its bound. middle_below, middle_above: on which side of an element it lies
--- Shifting: what the loop keeps that moves the later elements up. inserted_same, inserted_new: what an insertion gives
+-- rising: a set ascends. inserted_same: the time stands there already
+-- inserted_new: it does not, and the later elements are turned by one, with the time at their end
 use Prim.Native.Nat.{ℕ, zero, suc, ◌≤◌, ◌<◌, ◌+◌, ◌-◌}
 use native.Mathlib.Omega.{arith}
 use native.Mathlib.Numerals.{add-one}
-use mathlib.Core.Bool.{true, false, ◌&&◌}
+use mathlib.Core.Bool.{true}
 use mathlib.Core.List.{List, [], ◌∷◌, ◌++◌, append_assoc}
-use mathlib.Core.Path.{◌≡◌, refl, sym, ◌∙◌, ap}
-use lib.Dec.{eqb, ltb}
-use lib.ListN.{length, take, drop, get_or, set, length-set, length-append, length-drop, drop_of_length-le, take-append-drop}
-use lib.Seq.{set_split, length-take-le, get_or-take, take-take}
-use borrow.Author.Tests.{eqb-true, eq-eqb, ne_eqb, ltb-true, ltb-false, lt-ltb, le-ltb}
-use Rattle.grid.specs.Lists.{front, ascending}
+use mathlib.Core.Path.{◌≡◌, sym, ◌∙◌, ap}
+use lib.Dec.{ltb}
+use lib.ListN.{length, take, drop, get_or, set, length-append, length-drop, take-append-drop}
+use lib.Seq.{set_split, take_at, drop_at, length-take-le, take-append-le}
+use borrow.Author.Tests.{eq-eqb, ne_eqb, ltb-true, lt-ltb, le-ltb}
+use borrow.Rule.Slice.PartMut.{put_mid}
+use Rattle.std.proofs.lemmas.List.{drop-append-le}
+use Rattle.grid.specs.Lists.{ascending}
 use Rattle.grid.specs.Times.{put}
-use Rattle.grid.proofs.Tests.{by-test, clash, and_l, and_r, and_i}
 use Rattle.grid.proofs.Consolidate.{strict_ltb}
-use Rattle.grid.proofs.Loops.{all_get_d, put_more, drop_more, ahead_more, ahead_set, ahead_get_or}
+use Rattle.grid.proofs.Loops.{all_get_d}
 use Rattle.grid.proofs.Ascending.{ascending_rest, ascending_above}
 use Rattle.grid.proofs.Sort.{Sorted, none, more}
 use Rattle.distinct.specs.Sets.{Inserted}
@@ -25,155 +26,100 @@ sorted_ascending : (l : List ℕ) → ascending ltb l ≡ true → Sorted ltb l
 sorted_ascending [] e = none
 sorted_ascending (x ∷ l) e = more (ascending_above ltb strict_ltb x l e) (sorted_ascending l (ascending_rest ltb x l e))
 
--- the place of t: how many elements at the front are less
-abbrev pub place_of : ℕ → List ℕ → ℕ
-place_of t l = length (front (λ u. ltb u t) l)
+first_less : {x : ℕ} {l : List ℕ} (i : ℕ) → Sorted ltb (x ∷ l) → i < length l → x < get_or l i 0
+first_less {x} {l} i (more a s) h = ltb-true x (get_or l i 0) (all_get_d l i 0 a h)
 
-place_le : (t : ℕ) (l : List ℕ) → place_of t l ≤ length l
-place_le t [] = omega arith
-place_le t (u ∷ l) =
-    by-test (ltb u t)
-    (λ e. rw e (let h : place_of t l ≤ length l = place_le t l in omega arith))
-    (λ e. rw e (omega arith))
+sorted_rest : {x : ℕ} {l : List ℕ} → Sorted ltb (x ∷ l) → Sorted ltb l
+sorted_rest (more a s) = s
 
-below-place : (t : ℕ) {l : List ℕ} (m : ℕ) → Sorted ltb l → m < length l → get_or l m 0 < t → m < place_of t l
-below-place t m none h k = absurd (omega arith)
-below-place t zero (more {x = x} a s) h k = rw (lt-ltb x t k) (omega arith)
-below-place t (suc m) (more {x = x} {xs = l} a s) h k =
-    let h' : m < length l = (let z : suc m < suc (length l) = h in omega arith) in
-    let p : x < get_or l m 0 = ltb-true x (get_or l m 0) (all_get_d l m 0 a h') in
-    let q : get_or l m 0 < t = k in
-    rw (lt-ltb x t (omega arith)) (let r : m < place_of t l = below-place t m s h' q in omega arith)
-
-above_place : (t : ℕ) (l : List ℕ) (m : ℕ) → m < length l → t ≤ get_or l m 0 → place_of t l ≤ m
-above_place t [] m h k = absurd (omega arith)
-above_place t (x ∷ l) zero h k = rw (le-ltb x t k) (omega arith)
-above_place t (x ∷ l) (suc m) h k =
-    by-test (ltb x t)
-    (λ e. rw e (let r : place_of t l ≤ m = above_place t l m (let z : suc m < suc (length l) = h in omega arith) k in omega arith))
-    (λ e. rw e (omega arith))
-
--- the same for the first count elements of a slice
-module _ (s : List ℕ) (count t m : ℕ) (fits : count ≤ length s) (h : m < count) where
-  pub middle_below : ascending ltb (take count s) ≡ true → get_or s m 0 < t → m + 1 ≤ place_of t (take count s)
-  middle_below a k =
-      let l : length (take count s) ≡ count = length-take-le count s fits in
-      let r : m < place_of t (take count s) = below-place t m (sorted_ascending (take count s) a) (omega arith) (rw (get_or-take count s m 0 h) k) in
-      omega arith
-
-  pub middle_above : t ≤ get_or s m 0 → place_of t (take count s) ≤ m
-  middle_above k =
-      let l : length (take count s) ≡ count = length-take-le count s fits in
-      above_place t (take count s) m (omega arith) (rw (get_or-take count s m 0 h) k)
-
-pub place_within : (s : List ℕ) (count t : ℕ) → count ≤ length s → place_of t (take count s) ≤ count
-place_within s count t fits =
-    let l : length (take count s) ≡ count = length-take-le count s fits in
-    let r : place_of t (take count s) ≤ length (take count s) = place_le t (take count s) in
+rises : (l : List ℕ) → Sorted ltb l → (i j : ℕ) → i ≤ j → j < length l → get_or l i 0 ≤ get_or l j 0
+rises [] s i j h k = absurd (omega arith)
+rises (x ∷ l) s zero zero h k = omega arith
+rises (x ∷ l) s zero (suc j) h k =
+    let p : x < get_or l j 0 = first_less j s (let z : suc j < suc (length l) = k in omega arith) in
     omega arith
+rises (x ∷ l) s (suc i) zero h k = absurd (omega arith)
+rises (x ∷ l) s (suc i) (suc j) h k = rises l (sorted_rest s) i j (omega arith) (let z : suc j < suc (length l) = k in omega arith)
+
+pub rising : (l : List ℕ) → ascending ltb l ≡ true → (i j : ℕ) → i ≤ j → j < length l → get_or l i 0 ≤ get_or l j 0
+rising l e = rises l (sorted_ascending l e)
 
 -- ---- putting
-put_there : (t : ℕ) (l : List ℕ) → place_of t l < length l → get_or l (place_of t l) 0 ≡ t → put t l ≡ l
-put_there t [] h e = absurd (omega arith)
-put_there t (u ∷ l) h e =
-    by-test (ltb u t)
-    (λ f. let k : u < t = ltb-true u t f in
-    let h' : suc (place_of t l) < suc (length l) = rw f at h in
-    let e' : get_or l (place_of t l) 0 ≡ t = rw f at e in
-    rw (le-ltb t u (omega arith), ne_eqb t u (λ z. differ k z)) (ap (λ r. u ∷ r) (put_there t l (omega arith) e')))
-    (λ f. let e' : u ≡ t = rw f at e in rw (le-ltb t u (omega arith), eq-eqb t u (sym e')))
-  where
-    differ : u < t → t ≡ u → ⊥
-    differ k z = omega arith
+put_here : (t : ℕ) (l : List ℕ) (i : ℕ) → Sorted ltb l → i < length l → get_or l i 0 ≡ t → put t l ≡ l
+put_here t [] i s h e = absurd (omega arith)
+put_here t (x ∷ l) zero s h e = let q : x ≡ t = e in rw (le-ltb t x (omega arith), eq-eqb t x (sym q))
+put_here t (x ∷ l) (suc i) s h e =
+    let h' : i < length l = (let z : suc i < suc (length l) = h in omega arith) in
+    let p : x < get_or l i 0 = first_less i s h' in
+    let q : get_or l i 0 ≡ t = e in
+    let k : x < t = omega arith in
+    rw (le-ltb t x (omega arith), ne_eqb t x (λ z. omega arith)) (ap (λ r. x ∷ r) (put_here t l i (sorted_rest s) h' q))
 
-put_new : (t : ℕ) (l : List ℕ) → (place_of t l < length l → get_or l (place_of t l) 0 ≡ t → ⊥) → put t l ≡ take (place_of t l) l ++ t ∷ drop (place_of t l) l
-put_new t [] n = refl
-put_new t (u ∷ l) n =
-    by-test (ltb u t)
-    (λ f. let k : u < t = ltb-true u t f in
-    let n' : place_of t l < length l → get_or l (place_of t l) 0 ≡ t → ⊥ = (λ h e. (rw f at n) (let h' : place_of t l < length l = h in omega arith) e) in
-    rw (f, le-ltb t u (omega arith), ne_eqb t u (λ z. differ k z)) (ap (λ r. u ∷ r) (put_new t l n')))
-    (λ f. let k : t ≤ u = ltb-false u t f in
-    let n' : u ≡ t → ⊥ = (rw f at n) (omega arith) in
-    rw (f, lt-ltb t u (less k n')))
-  where
-    differ : u < t → t ≡ u → ⊥
-    differ k z = omega arith
+put_between : (t : ℕ) (l : List ℕ) (i : ℕ) → i ≤ length l → ((k : ℕ) → k < i → get_or l k 0 < t) → ((k : ℕ) → i ≤ k → k < length l → t < get_or l k 0)
+    → put t l ≡ take i l ++ t ∷ drop i l
+put_between t [] i h b a = let e : i ≡ 0 = omega arith in rw e
+put_between t (u ∷ l) zero h b a = let k : t < u = a 0 (omega arith) (omega arith) in rw (lt-ltb t u k)
+put_between t (u ∷ l) (suc i) h b a =
+    let k : u < t = b 0 (omega arith) in
+    let n : i ≤ length l = (let z : suc i ≤ suc (length l) = h in omega arith) in
+    rw (le-ltb t u (omega arith), ne_eqb t u (λ z. omega arith))
+    (ap (λ r. u ∷ r) (put_between t l i n (λ k p. b (suc k) (omega arith)) (λ k p q. a (suc k) (omega arith) (omega arith))))
 
-    less : t ≤ u → (u ≡ t → ⊥) → t < u
-    less k n = omega arith
-
--- ---- the loop that makes room: the place k is open, and x goes there
-pub record Shifting (s₀ : List ℕ) (count place t : ℕ) (s : List ℕ) (x k : ℕ) : Type 0 where
-  pub within : k ≤ count
-  pub big : count < length s₀
-  pub len : length s ≡ length s₀
-  pub ahead : drop k s ≡ drop k s₀
-  pub done : take k s ++ x ∷ (drop k (take count s₀) ++ drop (count + 1) s₀) ≡ take place s₀ ++ t ∷ (drop place (take count s₀) ++ drop (count + 1) s₀)
-
-pub shifting_start : (s₀ : List ℕ) (count place t : ℕ) → place ≤ count → count < length s₀ → Shifting s₀ count place t s₀ t place
-shifting_start s₀ count place t h k = record { within = h; big = k; len = refl; ahead = refl; done = refl }
-
-module _ {s₀ : List ℕ} {count place t : ℕ} {s : List ℕ} {x k : ℕ} (m : Shifting s₀ count place t s x k) where
-  pub shifting_more : k < count → Shifting s₀ count place t (set s k x) (get_or s k 0) (k + 1)
-  shifting_more h =
-      let b : count < length s₀ = m.big in
-      let l : length s ≡ length s₀ = m.len in
-      let lt : length (take count s₀) ≡ count = length-take-le count s₀ (omega arith) in
-      let here : drop k (take count s₀) ≡ get_or s k 0 ∷ drop (k + 1) (take count s₀) =
-      drop_more (take count s₀) k 0 (omega arith) ∙ ap (λ z. z ∷ drop (k + 1) (take count s₀)) (get_or-take count s₀ k 0 h ∙ sym (ahead_get_or s s₀ k 0 m.ahead)) in
-      record {
-        within = omega arith;
-        big = b;
-        len = simp length-set l;
-        ahead = ahead_set s s₀ k k x (omega arith) m.ahead;
-        done = ap (λ r. take (k + 1) (set s k x) ++ (r ++ drop (count + 1) s₀)) (sym here) ∙ put_more s k x (omega arith) m.done refl;
-      }
-
-  pub shifting_end : count ≤ k → set s k x ≡ take place s₀ ++ t ∷ (drop place (take count s₀) ++ drop (count + 1) s₀)
-  shifting_end h =
-      let w : k ≤ count = m.within in
-      let b : count < length s₀ = m.big in
-      let l : length s ≡ length s₀ = m.len in
-      let e : k ≡ count = omega arith in
-      let lt : length (take count s₀) ≡ count = length-take-le count s₀ (omega arith) in
-      set_split s k x (omega arith)
-      ∙ ap (λ r. take k s ++ x ∷ r) (ap (λ i. drop i s) (sym (add-one k)) ∙ ahead_more s s₀ k m.ahead ∙ ap (λ i. drop (i + 1) s₀) e)
-      ∙ ap (λ r. take k s ++ x ∷ (r ++ drop (count + 1) s₀)) (sym (drop_of_length-le (take count s₀) {i = k} (omega arith)))
-      ∙ m.done
-
--- ---- the whole
-module _ (t count : ℕ) (s : List ℕ) (big : count < length s) where
+-- ---- the elements from place to count, with t at their end, turned by one
+module _ (s : List ℕ) (t count place : ℕ) (h : place ≤ count) (k : count < length s) where
   length_front : length (take count s) ≡ count
   length_front = length-take-le count s (omega arith)
 
-  pub inserted_same : (p : ℕ) → p ≡ place_of t (take count s) → (ltb p count && eqb (get_or s p 0) t) ≡ true → Inserted t count s s count
-  inserted_same p q e =
-      let l : length (take count s) ≡ count = length_front in
-      let h : p < count = ltb-true p count (and_l (ltb p count) _ e) in
-      let v : get_or (take count s) p 0 ≡ t = get_or-take count s p 0 h ∙ eqb-true (get_or s p 0) t (and_r (ltb p count) _ e) in
-      let same : put t (take count s) ≡ take count s = put_there t (take count s) (rw q at (rw (← l) at h)) (rw q at v) in
+  length_later : length (drop place (take count s)) ≡ count - place
+  length_later = length-drop place (take count s) ∙ ap (λ n. n - place) length_front
+
+  set_is : set s count t ≡ take count s ++ t ∷ drop (count + 1) s
+  set_is = set_split s count t k ∙ ap (λ n. take count s ++ t ∷ drop n s) (sym (add-one count))
+
+  later_is : drop place (set s count t) ≡ (drop place (take count s) ++ t ∷ []) ++ drop (count + 1) s
+  later_is = ap (drop place) set_is ∙ drop-append-le place (take count s) _ (let l = length_front in omega arith) ∙ sym (append_assoc _ (t ∷ []) _)
+
+  length_part : length (drop place (take count s) ++ t ∷ []) ≡ count + 1 - place
+  length_part = length-append (drop place (take count s)) (t ∷ []) ∙ (let l = length_later in omega arith)
+
+  part_is : take (count + 1 - place) (drop place (set s count t)) ≡ drop place (take count s) ++ t ∷ []
+  part_is = ap (take (count + 1 - place)) later_is ∙ take_at _ _ _ length_part
+
+  rest_is : drop (count + 1 - place) (drop place (set s count t)) ≡ drop (count + 1) s
+  rest_is = ap (drop (count + 1 - place)) later_is ∙ drop_at _ _ _ length_part
+
+  front_is : take place (set s count t) ≡ take place (take count s)
+  front_is = ap (take place) set_is ∙ take-append-le place (take count s) _ (let l = length_front in omega arith)
+
+  pub turned : (r p : List ℕ) → p ≡ take (count + 1 - place) (drop place (set s count t)) → r ≡ drop (length p - 1) p ++ take (length p - 1) p
+      → put_mid place (count + 1 - place) (set s count t) r ≡ (take place (take count s) ++ t ∷ drop place (take count s)) ++ drop (count + 1) s
+  turned r p e f =
+      let q : p ≡ drop place (take count s) ++ t ∷ [] = e ∙ part_is in
+      let n : length (drop place (take count s)) ≡ length p - 1 = (let l = length_part in let m = ap length q in let l' = length_later in omega arith) in
+      let turn : r ≡ t ∷ drop place (take count s) =
+      f ∙ (λ i. drop (length p - 1) (q i) ++ take (length p - 1) (q i)) ∙ (λ i. drop_at (drop place (take count s)) (t ∷ []) _ n i ++ take_at (drop place (take count s)) (t ∷ []) _ n i) in
+      (λ i. front_is i ++ (turn i ++ rest_is i)) ∙ sym (append_assoc (take place (take count s)) (t ∷ drop place (take count s)) (drop (count + 1) s))
+
+-- ---- the whole
+module _ (t count : ℕ) (s : List ℕ) (big : count < length s) where
+  pub inserted_same : (i : ℕ) → ascending ltb (take count s) ≡ true → i < length (take count s) → get_or (take count s) i 0 ≡ t → Inserted t count s s count
+  inserted_same i a h e =
+      let same : put t (take count s) ≡ take count s = put_here t (take count s) i (sorted_ascending _ a) h e in
       record {
-        count_is = sym (ap length same ∙ l);
+        count_is = sym (ap length same ∙ length-take-le count s (omega arith));
         exit_is = sym (ap (λ r. r ++ drop count s) same ∙ take-append-drop count s);
       }
 
-  pub inserted_new : {z : List ℕ} (p : ℕ) → p ≡ place_of t (take count s) → (ltb p count && eqb (get_or s p 0) t) ≡ false
-      → z ≡ take p s ++ t ∷ (drop p (take count s) ++ drop (count + 1) s) → Inserted t count s z (count + 1)
-  inserted_new p q e f =
-      let l : length (take count s) ≡ count = length_front in
-      let w : p ≤ count = (let w' : place_of t (take count s) ≤ length (take count s) = place_le t (take count s) in omega arith) in
-      let not_there : place_of t (take count s) < length (take count s) → get_or (take count s) (place_of t (take count s)) 0 ≡ t → ⊥ =
-      (λ h v. let h' : p < count = omega arith in
-      let v' : get_or s p 0 ≡ t = sym (get_or-take count s p 0 h') ∙ ap (λ i. get_or (take count s) i 0) q ∙ v in
-      clash (ltb p count && eqb (get_or s p 0) t) (and_i _ _ (lt-ltb p count h') (eq-eqb (get_or s p 0) t v')) e) in
-      let put_is : put t (take count s) ≡ take p s ++ t ∷ drop p (take count s) =
-      put_new t (take count s) not_there ∙ ap (λ i. take i (take count s) ++ t ∷ drop i (take count s)) (sym q)
-      ∙ ap (λ r. r ++ t ∷ drop p (take count s)) (take-take p count s w) in
+  pub inserted_new : {z : List ℕ} (i : ℕ) → i ≤ length (take count s) → ((k : ℕ) → k < i → get_or (take count s) k 0 < t)
+      → ((k : ℕ) → i ≤ k → k < length (take count s) → t < get_or (take count s) k 0)
+      → z ≡ (take i (take count s) ++ t ∷ drop i (take count s)) ++ drop (count + 1) s → Inserted t count s z (count + 1)
+  inserted_new i h b a f =
+      let l : length (take count s) ≡ count = length-take-le count s (omega arith) in
+      let put_is : put t (take count s) ≡ take i (take count s) ++ t ∷ drop i (take count s) = put_between t (take count s) i h b a in
       record {
-        count_is = sym (ap length put_is ∙ length-append (take p s) (t ∷ drop p (take count s))
-            ∙ (let a : length (take p s) ≡ p = length-take-le p s (omega arith) in
-            let b : length (drop p (take count s)) ≡ length (take count s) - p = length-drop p (take count s) in
+        count_is = sym (ap length put_is ∙ length-append (take i (take count s)) (t ∷ drop i (take count s))
+            ∙ (let p : length (take i (take count s)) ≡ i = length-take-le i (take count s) h in
+            let q : length (drop i (take count s)) ≡ length (take count s) - i = length-drop i (take count s) in
             omega arith));
-        exit_is = f ∙ sym (append_assoc (take p s) (t ∷ drop p (take count s)) (drop (count + 1) s)) ∙ ap (λ r. r ++ drop (count + 1) s) (sym put_is);
+        exit_is = f ∙ ap (λ r. r ++ drop (count + 1) s) (sym put_is);
       }

@@ -1,15 +1,14 @@
 -- Removing equals from a sorted list gives the set of its elements.
 --
--- ends_more, ends_last: what ends a run. Squeezing: what the loop that removes equals keeps. removed: what is left of a sorted list
+-- ends_more, ends_last: what ends a run. Squeezing: what the loop that removes equals keeps.
 -- puts_sort: the set of a list is the set of its sort. removed_sorted: what is left of any list, sorted first
-use Prim.Native.Nat.{ℕ, ◌≤◌, ◌<◌, ◌+◌, ◌-◌}
+use Prim.Native.Nat.{ℕ, ◌≤◌, ◌<◌, ◌+◌}
 use native.Mathlib.Omega.{arith}
 use mathlib.Core.Bool.{Bool, true, false, not}
-use mathlib.Core.List.{List, [], ◌∷◌, ◌++◌, append-nil}
+use mathlib.Core.List.{List, [], ◌∷◌, ◌++◌}
 use mathlib.Core.Path.{◌≡◌, refl, sym, ◌∙◌, ap}
 use lib.Dec.{eqb, ltb, leb}
-use lib.ListN.{length, take, drop, get_or, set, replicate, length-set, drop_of_length-le}
-use lib.Seq.{length-take-le}
+use lib.ListN.{length, take, drop, get_or, set, length-set, drop_of_length-le}
 use borrow.Author.Tests.{eqb-true, eqb-false, eq-eqb, ne_eqb, ltb-true, ltb-false, lt-ltb, le-ltb, leb-true, not-true, not-false}
 use Rattle.grid.specs.Lists.{insert, sort, padded}
 use Rattle.grid.specs.Times.{put, puts}
@@ -18,7 +17,7 @@ use Rattle.grid.proofs.Lists.{nil, cons, all_imp, all_puts}
 use Rattle.grid.proofs.Loops.{put_more, drop_more, ahead_more, ahead_set}
 use Rattle.grid.proofs.Sort.{Sorted, more, ranking_leb, sorted_drop, sorted_is, sorted_sort, sort_sorted, length_sort}
 use Rattle.grid.proofs.Operations.{put_first}
-use Rattle.distinct.specs.Sets.{ends_run, Squeezed, Removed}
+use Rattle.distinct.specs.Sets.{ends_run, Removed}
 
 module _ {A : Type 0} (same : A → A → Bool) (s : List A) (i : ℕ) (d : A) where
   pub ends_more : i + 1 < length s → not (same (get_or s i d) (get_or s (i + 1) d)) ≡ ends_run same (drop i s)
@@ -102,22 +101,6 @@ module _ {s₀ s : List ℕ} {i k : ℕ} (m : Squeezing s₀ s i k) (h : i < len
         ahead = ahead_more s s₀ i m.ahead;
         done = ap (λ l. take k s ++ l) (sym step) ∙ m.done;
       }
-
-pub squeezing_end : {s₀ s : List ℕ} {i k : ℕ} → Squeezing s₀ s i k → length s ≤ i → Squeezed s₀ s k
-squeezing_end {s = s} {i = i} {k = k} m h =
-    let ki : k ≤ i = m.ki in
-    let il = m.il in
-    record {
-      fits = omega arith;
-      front_is = sym (append-nil (take k s)) ∙ ap (λ l. take k s ++ puts l []) (sym (drop_of_length-le s h)) ∙ m.done;
-    }
-
--- the front is the set, and zeros follow
-pub removed : {s₀ s z : List ℕ} {r : ℕ} → Squeezed s₀ s r → length s ≡ length s₀ → z ≡ take r s ++ replicate (length s - r) 0 → Removed (puts s₀ []) (length s₀) z r
-removed {s₀} {s} {z} {r} m len e =
-    let f : r ≤ length s₀ = m.fits in
-    let l : length (puts s₀ []) ≡ r = ap length (sym m.front_is) ∙ length-take-le r s (omega arith) in
-    record { count_is = sym l; exit_is = e ∙ (λ i. m.front_is i ++ replicate (len i - sym l i) 0) }
 
 -- ---- the set of a list is the set of its sort
 put_swap_less : (x y : ℕ) (us : List ℕ) → x < y → put x (put y us) ≡ put y (put x us)

@@ -21,6 +21,7 @@ use Rattle.rules.specs.Histories.{Edit, time_of, value_of}
 use Rattle.edits.specs.Edits.{edits, Alike}
 use Rattle.histories.specs.Places.{Placed, Steps, StepsOne}
 use Rattle.histories.specs.declared.Place.{Place}
+use Rattle.histories.specs.declared.Stepped.{Stepped}
 use Rattle.histories.proofs.Steps.{slid, steps_within, steps, steps_one}
 
 -- ---- the columns of edits
@@ -104,8 +105,8 @@ module _ (ts vs : List ℕ) (ds : List ℤ) (a : Alike ts vs ds) where
       pub edits_within : Alike ts vs ds × ((p.count ≤ p.at) × ((p.at ≤ to) × (to ≤ length ts)))
       edits_within = (a, steps_within q ts p w e)
 
-      pub edits-step : {es : List Edit} → es ≡ slid (edits ts vs ds) p.count p.at to → Steps (λ x. q (time_of x)) (edits ts vs ds) p es (record { place = record { count = p.count + (to - p.at); at = to }; moved = ltb p.at to })
-      edits-step s = steps (λ x. q (time_of x)) (edits ts vs ds) p placed-edits (edits_end q p.at e) s
+      pub edits-step : {es : List Edit} {r : Stepped} → es ≡ slid (edits ts vs ds) p.count p.at to → r ≡ record { place = record { count = p.count + (to - p.at); at = to }; moved = ltb p.at to } → Steps (λ x. q (time_of x)) (edits ts vs ds) p es r
+      edits-step s told = steps (λ x. q (time_of x)) (edits ts vs ds) p placed-edits (edits_end q p.at e) s told
 
     pub edits-step_one : {es : List Edit} → p.at < length ts → es ≡ slid (edits ts vs ds) p.count p.at (p.at + 1) → StepsOne (edits ts vs ds) p es (record { count = p.count + 1; at = p.at + 1 })
     edits-step_one h s = steps_one (edits ts vs ds) p placed-edits (rw length-edits h) s

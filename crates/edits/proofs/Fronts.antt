@@ -3,7 +3,6 @@
 -- fronted: what lies at the front of three columns, as edits. fronted_within, fronted_take, fronted_drop: how much that is, what it is, and what lies past it
 -- loads_edits: a load of parts. lent_buffer: the parts that an advance lends. advances_edits, advances_nothing: an advance of parts; there is none
 use Prim.Native.Nat.{ℕ, zero, suc, ◌-◌, ◌≤◌}
-use native.Mathlib.Nat.{sub-zero}
 use native.Mathlib.Omega.{arith}
 use mathlib.Core.Bool.{Bool, true, false, cond}
 use mathlib.Core.List.{List, [], ◌∷◌, ◌++◌, map, append-nil, append_assoc, map-append}
@@ -32,14 +31,14 @@ module _ {B : Type 0} (f : Edit → B) where
   map_padded : (n : ℕ) (es : List Edit) → padded (f no_edit) n (map f es) ≡ map f (padded no_edit n es)
   map_padded n es = rw (length-map es f, map_fill (n - length es)) (sym (map-append f es (replicate (n - length es) no_edit)))
 
-  column_front : (n : ℕ) (es cols : List Edit) {x col : List B} → x ≡ padded (f no_edit) n (map f es) → map f cols ≡ col → x ++ drop (n - 0) col ≡ map f (padded no_edit n es ++ drop n cols)
-  column_front n es cols p q = rw (sub-zero, ← q, ← map-drop f n cols, p, map_padded n es) (sym (map-append f (padded no_edit n es) (drop n cols)))
+  column_front : (n : ℕ) (es cols : List Edit) {x col : List B} → x ≡ padded (f no_edit) n (map f es) → map f cols ≡ col → x ++ drop n col ≡ map f (padded no_edit n es ++ drop n cols)
+  column_front n es cols p q = rw (← q, ← map-drop f n cols, p, map_padded n es) (sym (map-append f (padded no_edit n es) (drop n cols)))
 
   column_take : (n : ℕ) (es : List Edit) {x : List B} (rest : List B) → length es ≤ n → x ≡ padded (f no_edit) n (map f es) → take n (x ++ rest) ≡ x
   column_take n es {x} rest h p = take_at x rest n (rw (p, length-append, length-replicate, length-map es f) (omega arith))
 
 module _ (n : ℕ) {es : List Edit} {r : ℕ} (ts vs : List ℕ) (ds : List ℤ) {x y : List ℕ} {z : List ℤ} (a : Alike ts vs ds) (f : Front es n r x y z) (h : length es ≤ n) where
-  fronted : edits (x ++ drop (n - 0) ts) (y ++ drop (n - 0) vs) (z ++ drop (n - 0) ds) ≡ padded no_edit n es ++ drop n (edits ts vs ds)
+  fronted : edits (x ++ drop n ts) (y ++ drop n vs) (z ++ drop n ds) ≡ padded no_edit n es ++ drop n (edits ts vs ds)
   unfolding time_of value_of
   fronted =
       (λ i. edits (column_front time_of n es (edits ts vs ds) f.firsts_are (times-edits ts vs ds a) i)
@@ -50,10 +49,10 @@ module _ (n : ℕ) {es : List Edit} {r : ℕ} (ts vs : List ℕ) (ds : List ℤ)
   pub fronted_within : r ≤ n
   fronted_within = omega (arith, f.count_is)
 
-  pub fronted_take : take r (edits (x ++ drop (n - 0) ts) (y ++ drop (n - 0) vs) (z ++ drop (n - 0) ds)) ≡ es
+  pub fronted_take : take r (edits (x ++ drop n ts) (y ++ drop n vs) (z ++ drop n ds)) ≡ es
   fronted_take = rw (fronted, append_assoc) (take_at es _ r (sym f.count_is))
 
-  pub fronted_drop : drop n (edits (x ++ drop (n - 0) ts) (y ++ drop (n - 0) vs) (z ++ drop (n - 0) ds)) ≡ drop n (edits ts vs ds)
+  pub fronted_drop : drop n (edits (x ++ drop n ts) (y ++ drop n vs) (z ++ drop n ds)) ≡ drop n (edits ts vs ds)
   fronted_drop = rw fronted (drop_at (padded no_edit n es) (drop n (edits ts vs ds)) n (rw (length-append, length-replicate) (omega arith)))
 
 -- ---- a load
@@ -62,7 +61,7 @@ load_length o es = omega (arith, load_mass sizing_one o es, mass_one (load_edits
 
 pub loads_edits : {o : Option ℕ} (ts vs : List ℕ) (ds : List ℤ) (joins places ts₀ vs₀ : List ℕ) (ds₀ : List ℤ) {joins' places' x y : List ℕ} {z : List ℤ} {r : ℕ} → LentLoad ts vs ds joins places ts₀ vs₀ ds₀
     → LoadsAll o ts vs ds joins' places' x y z r
-    → LoadsEdits o ts vs ds (edits ts₀ vs₀ ds₀) (edits (x ++ drop (length ts - 0) ts₀) (y ++ drop (length ts - 0) vs₀) (z ++ drop (length ts - 0) ds₀)) joins (joins' ++ drop (length ts - 0) joins) places (places' ++ drop (length ts - 0) places) r
+    → LoadsEdits o ts vs ds (edits ts₀ vs₀ ds₀) (edits (x ++ drop (length ts) ts₀) (y ++ drop (length ts) vs₀) (z ++ drop (length ts) ds₀)) joins (joins' ++ drop (length ts) joins) places (places' ++ drop (length ts) places) r
 loads_edits {o} ts vs ds joins places ts₀ vs₀ ds₀ {joins'} {places'} a w =
     let b : Alike ts vs ds = record { values = a.lent.alike-second; diffs = a.lent.alike-diff } in
     let h : length (load_edits o (edits ts vs ds)) ≤ length ts = omega (arith, load_length o (edits ts vs ds), length-edits ts vs ds b) in
@@ -70,8 +69,8 @@ loads_edits {o} ts vs ds joins places ts₀ vs₀ ds₀ {joins'} {places'} a w =
       within = fronted_within (length ts) ts₀ vs₀ ds₀ a.alike w.front h;
       loaded = fronted_take (length ts) ts₀ vs₀ ds₀ a.alike w.front h;
       holds = fronted (length ts) ts₀ vs₀ ds₀ a.alike w.front h;
-      joins_are = rw sub-zero (ap (λ l. l ++ drop (length ts) joins) w.joins_are);
-      places_are = rw sub-zero (ap (λ l. l ++ drop (length ts) places) w.places_are);
+      joins_are = ap (λ l. l ++ drop (length ts) joins) w.joins_are;
+      places_are = ap (λ l. l ++ drop (length ts) places) w.places_are;
     }
 
 -- ---- an advance
@@ -79,8 +78,8 @@ advance_length : (o : Option ℕ) (es : List Edit) → length (advance_edits o e
 advance_length o es = omega (arith, advance_mass sizing_one o es, mass_one (advance_edits o es), mass_one es)
 
 -- a part that came back, where it was used and where it was not
-part_back : {A : Type 0} (b : Bool) (n count : ℕ) (s xs : List A) {x : List A} → n ≡ count → count ≤ length s → x ≡ cond b (take count s) (xs ++ drop n (take count s)) → x ++ drop (count - 0) s ≡ cond b s (xs ++ drop count s)
-part_back {A} b n count s xs {x} e h p = rw sub-zero (go b p)
+part_back : {A : Type 0} (b : Bool) (n count : ℕ) (s xs : List A) {x : List A} → n ≡ count → count ≤ length s → x ≡ cond b (take count s) (xs ++ drop n (take count s)) → x ++ drop count s ≡ cond b s (xs ++ drop count s)
+part_back {A} b n count s xs {x} e h p = go b p
   where
     go : (b : Bool) → x ≡ cond b (take count s) (xs ++ drop n (take count s)) → x ++ drop count s ≡ cond b s (xs ++ drop count s)
     go true q = rw q (take-append-drop count s)
@@ -92,13 +91,12 @@ module _ (count : ℕ) (ts vs : List ℕ) (ds : List ℤ) (places firsts seconds
   buffer_length : length (take count ts) ≡ count
   buffer_length = length-take-le count ts a.within
 
-  pub lent_buffer : Lent (take (count - 0) ts) (take (count - 0) vs) (take (count - 0) ds) × LentWork (length (take (count - 0) ts)) (take (count - 0) places) (take (count - 0) firsts) (take (count - 0) seconds) (take (count - 0) sums)
+  pub lent_buffer : Lent (take count ts) (take count vs) (take count ds) × LentWork (length (take count ts)) (take count places) (take count firsts) (take count seconds) (take count sums)
   lent_buffer =
       let n = buffer_length in
       let v : length vs ≡ length ts = a.alike.values in
       let d : length ds ≡ length ts = a.alike.diffs in
-      let w : count ≤ length ts = a.within in
-      rw sub-zero (
+      let w : count ≤ length ts = a.within in (
         record { alike-second = length-take-le count vs (omega arith) ∙ sym n; alike-diff = length-take-le count ds (omega arith) ∙ sym n; bounded = a.bounded },
         record {
           room_places = length-take-le count places a.room_places ∙ sym n;
@@ -121,9 +119,9 @@ module _ (count : ℕ) (ts vs : List ℕ) (ds : List ℤ) (places firsts seconds
       )
 
   module _ {o : Option ℕ} {m : ℕ} {x y : List ℕ} {z : List ℤ} {places' firsts' seconds' : List ℕ} {sums' : List ℤ} {r : ℕ} (e : o ≡ some m)
-      (w' : AdvancesAll (some m) (take (count - 0) ts) (take (count - 0) vs) (take (count - 0) ds) x y z (take (count - 0) places) (take (count - 0) firsts) (take (count - 0) seconds) (take (count - 0) sums) places' firsts' seconds' sums' r) where
+      (w' : AdvancesAll (some m) (take count ts) (take count vs) (take count ds) x y z (take count places) (take count firsts) (take count seconds) (take count sums) places' firsts' seconds' sums' r) where
     lent_advanced : AdvancesAll o (take count ts) (take count vs) (take count ds) x y z (take count places) (take count firsts) (take count seconds) (take count sums) places' firsts' seconds' sums' r
-    lent_advanced = rw e (rw sub-zero at w')
+    lent_advanced = rw e w'
 
     advanced_front : Front (advance_edits o (take count (edits ts vs ds))) count r x y z
     advanced_front =
@@ -137,9 +135,9 @@ module _ (count : ℕ) (ts vs : List ℕ) (ds : List ℤ) (places firsts seconds
         let n : length (take count (edits ts vs ds)) ≡ count = length-take-le count (edits ts vs ds) (omega arith) in
         omega (arith, advance_length o (take count (edits ts vs ds)))
 
-    pub advances_edits : AdvancesEdits o count (edits ts vs ds) (edits (x ++ drop (count - 0) ts) (y ++ drop (count - 0) vs) (z ++ drop (count - 0) ds)) r
-        × WorkAfter o count (take count ts) (take count vs) (take count ds) (take count (x ++ drop (count - 0) ts)) (take count (y ++ drop (count - 0) vs)) (take count (z ++ drop (count - 0) ds))
-        places firsts seconds sums (places' ++ drop (count - 0) places) (firsts' ++ drop (count - 0) firsts) (seconds' ++ drop (count - 0) seconds) (sums' ++ drop (count - 0) sums)
+    pub advances_edits : AdvancesEdits o count (edits ts vs ds) (edits (x ++ drop count ts) (y ++ drop count vs) (z ++ drop count ds)) r
+        × WorkAfter o count (take count ts) (take count vs) (take count ds) (take count (x ++ drop count ts)) (take count (y ++ drop count vs)) (take count (z ++ drop count ds))
+        places firsts seconds sums (places' ++ drop count places) (firsts' ++ drop count firsts) (seconds' ++ drop count seconds) (sums' ++ drop count sums)
     unfolding time_of value_of
     advances_edits =
         let h = advanced_within in
@@ -154,8 +152,8 @@ module _ (count : ℕ) (ts vs : List ℕ) (ds : List ℤ) (places firsts seconds
           },
           record {
             places_are = part_back b (length (take count ts)) count places (sorted_places (take count vs) (map (joined o) (take count ts))) buffer_length a.room_places u.places_are;
-            firsts_are = rw (column_take value_of count (advance_edits o (take count (edits ts vs ds))) (drop (count - 0) vs) h f.seconds_are) (part_back b (length (take count ts)) count firsts y buffer_length a.room_firsts u.firsts_are);
-            seconds_are = rw (column_take time_of count (advance_edits o (take count (edits ts vs ds))) (drop (count - 0) ts) h f.firsts_are) (part_back b (length (take count ts)) count seconds x buffer_length a.room_seconds u.seconds_are);
-            sums_are = rw (column_take diff_of count (advance_edits o (take count (edits ts vs ds))) (drop (count - 0) ds) h f.diffs_are) (part_back b (length (take count ts)) count sums z buffer_length a.room_sums u.sums_are);
+            firsts_are = rw (column_take value_of count (advance_edits o (take count (edits ts vs ds))) (drop count vs) h f.seconds_are) (part_back b (length (take count ts)) count firsts y buffer_length a.room_firsts u.firsts_are);
+            seconds_are = rw (column_take time_of count (advance_edits o (take count (edits ts vs ds))) (drop count ts) h f.firsts_are) (part_back b (length (take count ts)) count seconds x buffer_length a.room_seconds u.seconds_are);
+            sums_are = rw (column_take diff_of count (advance_edits o (take count (edits ts vs ds))) (drop count ds) h f.diffs_are) (part_back b (length (take count ts)) count sums z buffer_length a.room_sums u.sums_are);
           },
         )

@@ -1,19 +1,15 @@
 -- Edits that are consolidated already: their consolidation is themselves.
 --
--- zero_read: a diff that was read from a column, and tested
 -- key_at: the key of the edit at a place, from the columns. length_keys: as many as there are times
--- order_yes, order_no: the two tests make one
-use Prim.Native.Nat.{ℕ, zero, suc, ◌<◌, ◌^◌}
+-- two_tests: the order of the keys and the diffs are tested apart
+use Prim.Native.Nat.{ℕ, zero, suc}
 use native.Mathlib.Omega.{arith}
-use mathlib.Core.Bool.{Bool, true, false, ◌&&◌, not}
+use mathlib.Core.Bool.{Bool, true, ◌&&◌, not}
 use mathlib.Core.List.{List, [], ◌∷◌, map}
 use mathlib.Core.Path.{◌≡◌, refl, sym, ◌∙◌, ap}
 use lib.Dec.{ltb}
 use lib.IntN.{ℤ}
 use lib.ListN.{length, get_or, length-map}
-use lib.Signed.{mag}
-use mir.Syntax.{w64}
-use mir.Val.{to_z, of_z}
 use borrow.Author.Tests.{not-true}
 use Rattle.grid.specs.Consolidate.{is_zero, lex, consolidate}
 use Rattle.grid.specs.Lists.{every, ascending}
@@ -21,14 +17,10 @@ use Rattle.grid.proofs.Tests.{and_l, and_r}
 use Rattle.grid.proofs.Lists.{map_all}
 use Rattle.grid.proofs.Ascending.{ascending_rest, ascending_above}
 use Rattle.grid.proofs.Consolidate.{Canon, none, more, consolidate_canon}
-use Rattle.grid.proofs.Signed.{back}
 use Rattle.rules.specs.Histories.{Edit, by_value}
 use Rattle.rules.proofs.Histories.{strict_by_value}
 use Rattle.edits.specs.Edits.{edits, Alike, key_of, is_consolidated}
 use Rattle.edits.proofs.Edits.{length-edits, diff_of, diffs-edits}
-
-pub zero_read : (z : ℤ) {b t : Bool} → mag z < 2 ^ 63 → b ≡ is_zero (to_z w64 (of_z w64 z)) → b ≡ t → not (is_zero z) ≡ not t
-zero_read z h e f = ap not (sym (ap is_zero (back {z = z} h)) ∙ sym e ∙ f)
 
 pub key_at : (ts vs : List ℕ) (ds : List ℤ) → Alike ts vs ds → (i : ℕ) → get_or (map key_of (edits ts vs ds)) i (0, 0) ≡ (get_or ts i 0, get_or vs i 0)
 unfolding edits
@@ -54,13 +46,10 @@ module _ (ts vs : List ℕ) (ds : List ℤ) (a : Alike ts vs ds) where
       every_map [] = refl
       every_map (e ∷ es) = ap (λ b. not (is_zero e.1) && b) (every_map es)
 
-  pub order_yes : {b : Bool} → true ≡ ascending by_value (map key_of (edits ts vs ds)) → b ≡ every (λ d. not (is_zero d)) ds → b ≡ is_consolidated (edits ts vs ds)
+  -- the two tests make one
+  pub two_tests : is_consolidated (edits ts vs ds) ≡ (ascending by_value (map key_of (edits ts vs ds)) && every (λ d. not (is_zero d)) ds)
   unfolding is_consolidated
-  order_yes t e = e ∙ sym every_diff ∙ rw (← t)
-
-  pub order_no : false ≡ ascending by_value (map key_of (edits ts vs ds)) → false ≡ is_consolidated (edits ts vs ds)
-  unfolding is_consolidated
-  order_no t = rw (← t)
+  two_tests = ap (λ b. ascending by_value (map key_of (edits ts vs ds)) && b) every_diff
 
 canon_of : (es : List Edit) → ascending by_value (map key_of es) ≡ true → every (λ e. not (is_zero e.1)) es ≡ true → Canon by_value es
 canon_of [] a e = none

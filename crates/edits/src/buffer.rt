@@ -9,11 +9,11 @@ ghost use Rattle.edits.specs.Edits.{edits};
 use crate::order::is_consolidated;
 use consolidation::{consolidate, consolidate_into};
 use histories::{copy_joined, join_each};
-use times::{Meet, PackedTime};
+use times::PackedTime;
 
 // Loads edits into columns that are as long.
 fn load_all(
-    m: Meet,
+    m: Option<PackedTime>,
     fromtimes: &[u64],
     fromvalues: &[u64],
     fromdiffs: &[i64],
@@ -46,14 +46,15 @@ fn advance_by(
 {
     join_each(p, times);
     if is_consolidated(times, values, diffs) {
-        return times.len();
+        times.len()
+    } else {
+        consolidate(values, times, diffs, places, firsts, seconds, sums)
     }
-    consolidate(values, times, diffs, places, firsts, seconds, sums)
 }
 
 // Loads edits, each joined with the meet if there is one, consolidated by (time, value). Returns how many there are.
 pub fn load_edits(
-    m: Meet,
+    m: Option<PackedTime>,
     fromtimes: &[u64],
     fromvalues: &[u64],
     fromdiffs: &[i64],
@@ -72,11 +73,11 @@ pub fn load_edits(
         fromtimes,
         fromvalues,
         fromdiffs,
-        &mut joined[0..n],
-        &mut places[0..n],
-        &mut times[0..n],
-        &mut values[0..n],
-        &mut diffs[0..n],
+        &mut joined[..n],
+        &mut places[..n],
+        &mut times[..n],
+        &mut values[..n],
+        &mut diffs[..n],
     )
 }
 
@@ -86,7 +87,7 @@ pub fn advance_buffer_by(
     values: &mut [u64],
     diffs: &mut [i64],
     count: usize,
-    m: Meet,
+    m: Option<PackedTime>,
     places: &mut [u64],
     firsts: &mut [u64],
     seconds: &mut [u64],
@@ -95,17 +96,17 @@ pub fn advance_buffer_by(
     requires { LentBuffer count times.old values.old diffs.old places.old firsts.old seconds.old sums.old }
     ensures { AdvancesEdits (optional m) count (edits times.old values.old diffs.old) (edits times.new values.new diffs.new) result × WorkAfter (optional m) count (take count times.old) (take count values.old) (take count diffs.old) (take count times.new) (take count values.new) (take count diffs.new) places.old firsts.old seconds.old sums.old places.new firsts.new seconds.new sums.new }
 {
-    if let Meet::Present(p) = m {
-        return advance_by(
+    match m {
+        Some(p) => advance_by(
             p,
-            &mut times[0..count],
-            &mut values[0..count],
-            &mut diffs[0..count],
-            &mut places[0..count],
-            &mut firsts[0..count],
-            &mut seconds[0..count],
-            &mut sums[0..count],
-        );
+            &mut times[..count],
+            &mut values[..count],
+            &mut diffs[..count],
+            &mut places[..count],
+            &mut firsts[..count],
+            &mut seconds[..count],
+            &mut sums[..count],
+        ),
+        None => count,
     }
-    count
 }

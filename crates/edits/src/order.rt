@@ -5,7 +5,6 @@ ghost use Rattle.grid.specs.Lists.{every, ascending};
 ghost use Rattle.rules.specs.Histories.{by_value};
 ghost use Rattle.edits.specs.Edits.{edits, Alike, key_of, is_consolidated};
 
-use diffs::is_zero;
 use rows::pair_before;
 
 // Whether the edits ascend strictly by (value, time).
@@ -13,11 +12,8 @@ fn ascend_by_value(times: &[u64], values: &[u64], diffs: &[i64]) -> bool
     requires { Alike times.now values.now diffs.now }
     ensures { result ≡ ascending by_value (map key_of (edits times.now values.now diffs.now)) }
 {
-    let mut i = 1;
-    while i < times.len() {
-        if pair_before(values[i - 1], times[i - 1], values[i], times[i]) {
-            i += 1;
-        } else {
+    for i in 1..times.len() {
+        if !pair_before(values[i - 1], times[i - 1], values[i], times[i]) {
             return false;
         }
     }
@@ -28,14 +24,7 @@ fn ascend_by_value(times: &[u64], values: &[u64], diffs: &[i64]) -> bool
 fn no_zeros(diffs: &[i64]) -> bool
     ensures { result ≡ every (λ d. not (is_zero d)) diffs.now }
 {
-    let mut i = 0;
-    while i < diffs.len() {
-        if is_zero(diffs[i]) {
-            return false;
-        }
-        i += 1;
-    }
-    true
+    diffs.iter().all(|d| *d != 0)
 }
 
 // Whether the edits are a consolidated buffer: ascending by (value, time), and no diff is zero.
@@ -43,8 +32,5 @@ pub fn is_consolidated(times: &[u64], values: &[u64], diffs: &[i64]) -> bool
     requires { Alike times.now values.now diffs.now }
     ensures { result ≡ is_consolidated (edits times.now values.now diffs.now) }
 {
-    if ascend_by_value(times, values, diffs) {
-        return no_zeros(diffs);
-    }
-    false
+    ascend_by_value(times, values, diffs) && no_zeros(diffs)
 }

@@ -9,22 +9,6 @@ ghost use Rattle.histories.specs.Places.{Placed, Steps, StepsOne};
 use histories::{Place, Stepped, end_of_equal, end_through, move_down};
 use times::PackedTime;
 
-// Moves the diffs from `at` up to `to` down to the place `count`.
-fn move_diffs_down(s: &mut [i64], count: usize, at: usize, to: usize)
-    requires { (count ≤ at) × ((at ≤ to) × (to ≤ length s.old)) }
-    ensures { s.new ≡ laid (take count s.old ++ slice at to s.old) s.old }
-{
-    if count < at {
-        let mut k = count;
-        let mut i = at;
-        while i < to {
-            s[k] = s[i];
-            k += 1;
-            i += 1;
-        }
-    }
-}
-
 // Moves the edits from `at` up to `to` down to the place `count`.
 pub fn move_edits(
     times: &mut [u64],
@@ -39,7 +23,7 @@ pub fn move_edits(
 {
     move_down(times, count, at, to);
     move_down(values, count, at, to);
-    move_diffs_down(diffs, count, at, to);
+    move_down(diffs, count, at, to);
 }
 
 // Moves the next edit into the buffer.
@@ -67,13 +51,7 @@ pub fn step_while_time_is(
 {
     let to = end_of_equal(times, p.at, n);
     move_edits(times, values, diffs, p.count, p.at, to);
-    Stepped {
-        place: Place {
-            count: p.count + (to - p.at),
-            at: to,
-        },
-        moved: p.at < to,
-    }
+    p.stepped_to(to)
 }
 
 // Steps edits while the next one's time is at most n, in ascending order.
@@ -89,11 +67,5 @@ pub fn step_through(
 {
     let to = end_through(times, p.at, n);
     move_edits(times, values, diffs, p.count, p.at, to);
-    Stepped {
-        place: Place {
-            count: p.count + (to - p.at),
-            at: to,
-        },
-        moved: p.at < to,
-    }
+    p.stepped_to(to)
 }

@@ -1,24 +1,23 @@
 -- Emissions in their columns.
 --
--- Writing: a loop that writes one element after the other. writing_start, writing_more, writing_end: it keeps that. taken_more, taken_none, taken_map: what is still to be read of the first n
+-- Writing: a loop that writes one element after the other. writing_start, writing_more, writing_end: it keeps that. mapped_more: what is still to be written of a list that a function goes over
 -- mass-at: a diff is no larger than all of them. small_back: a diff is read back from its bits. product_fits, product_is: the product of two diffs fits
--- diff_read, diff_small, diff_multiplied: one of the first n diffs, as it is read. lent-diffs, read_diffs: the diff of the stepped edit
+-- small_at: one of a column's diffs is small. read_diffs: the diff of the stepped edit
 use Prim.Native.Nat.{ℕ, zero, suc, ◌+◌, ◌≤◌, ◌<◌, ◌^◌}
 use native.Mathlib.Omega.{arith}
 use native.Mathlib.Nat.{mul-le-mul}
 use mathlib.Core.List.{List, [], ◌∷◌, map}
 use mathlib.Core.Path.{◌≡◌, refl, sym, ◌∙◌, ap, ap₂}
 use lib.IntN.{ℤ, pos, nat_abs, ◌*ℤ◌}
-use lib.ListN.{length, take, drop, get_or, set, length-set, drop_of_length-le}
-use lib.Seq.{length-take-le, get_or-take}
+use lib.ListN.{length, drop, get_or, set, length-set}
 use lib.Signed.{mag}
 use mir.Syntax.{w64}
 use mir.Val.{to_z, of_z, SFits}
-use Rattle.grid.proofs.Loops.{drop_more}
+use Rattle.grid.proofs.Loops.{map_more}
 use Rattle.grid.proofs.Signed.{back, mag_le}
 use Rattle.grid.proofs.Sizes.{sizing_nat_abs}
 use Rattle.consolidation.specs.Entries.{mass}
-use Rattle.emissions.specs.Emissions.{over, most_diff, LentPairs}
+use Rattle.emissions.specs.Emissions.{over, most_diff}
 
 -- writing the rest over s from the place at + i on gives the goal. It was s₀
 pub record Writing {A : Type 0} (s₀ rest : List A) (at i : ℕ) (s goal : List A) : Type 0 where
@@ -39,14 +38,8 @@ module _ {A : Type 0} where
   unfolding over
   writing_end m r = rw r at m.written
 
-  pub taken_more : (l : List A) (n i : ℕ) (d : A) → n ≤ length l → i < n → drop i (take n l) ≡ get_or l i d ∷ drop (i + 1) (take n l)
-  taken_more l n i d h k = drop_more (take n l) i d (rw (length-take-le n l h) k) ∙ ap (λ x. x ∷ drop (i + 1) (take n l)) (get_or-take n l i d k)
-
-  pub taken_none : (l : List A) (n i : ℕ) → n ≤ length l → n ≤ i → drop i (take n l) ≡ []
-  taken_none l n i h k = drop_of_length-le (take n l) {i = i} (rw (length-take-le n l h) k)
-
-pub taken_map : {A B : Type 0} (f : A → B) (l : List A) (n i : ℕ) (d : A) {x : B} → n ≤ length l → i < n → x ≡ f (get_or l i d) → map f (drop i (take n l)) ≡ x ∷ map f (drop (i + 1) (take n l))
-taken_map f l n i d h k e = ap (map f) (taken_more l n i d h k) ∙ ap (λ z. z ∷ map f (drop (i + 1) (take n l))) (sym e)
+pub mapped_more : {A B : Type 0} (f : A → B) (l : List A) (i : ℕ) (d : A) {x : B} → i < length l → x ≡ f (get_or l i d) → map f (drop i l) ≡ x ∷ map f (drop (i + 1) l)
+mapped_more f l i d h e = map_more f l i d h ∙ ap (λ z. z ∷ map f (drop (i + 1) l)) (sym e)
 
 pub mass-at : (ds : List ℤ) (i : ℕ) → i < length ds → nat_abs (get_or ds i (pos 0)) ≤ mass ds
 unfolding mass
@@ -68,33 +61,16 @@ module _ (d e : ℤ) (h : nat_abs d ≤ most_diff) (k : nat_abs e ≤ most_diff)
   pub product_fits : SFits w64 (to_z w64 (of_z w64 d) *ℤ to_z w64 (of_z w64 e))
   product_fits = record { sfits = rw read fits }
 
-  pub product_is : to_z w64 (of_z w64 (to_z w64 (of_z w64 d) *ℤ to_z w64 (of_z w64 e))) ≡ d *ℤ e
-  product_is = rw read (back fits)
+  pub product_is : to_z w64 (of_z w64 (to_z w64 (of_z w64 d) *ℤ to_z w64 (of_z w64 e))) ≡ to_z w64 (of_z w64 d) *ℤ e
+  product_is = rw read (back fits) ∙ ap (λ z. z *ℤ e) (sym (small_back d h))
 
--- one of the first n diffs, read back, and multiplied
-module _ (from : List ℤ) (n i : ℕ) (h : n ≤ length from) (k : i < n) (m : mass (take n from) ≤ most_diff) where
-  small_at : nat_abs (get_or from i (pos 0)) ≤ most_diff
-  small_at =
-      let e : get_or (take n from) i (pos 0) ≡ get_or from i (pos 0) = get_or-take n from i (pos 0) k in
-      rw (← e) (omega (arith, mass-at (take n from) i (rw (length-take-le n from h) k)))
-
-  pub diff_read : to_z w64 (of_z w64 (get_or from i (pos 0))) ≡ get_or from i (pos 0)
-  diff_read = small_back (get_or from i (pos 0)) small_at
-
-  pub diff_small : nat_abs (to_z w64 (of_z w64 (get_or from i (pos 0)))) ≤ most_diff
-  diff_small = rw diff_read small_at
-
-  pub diff_multiplied : (d : ℤ) {r : ℤ} → nat_abs d ≤ most_diff → r ≡ d *ℤ to_z w64 (of_z w64 (get_or from i (pos 0))) → to_z w64 (of_z w64 r) ≡ d *ℤ get_or from i (pos 0)
-  diff_multiplied d {r} s e =
-      let f : r ≡ d *ℤ get_or from i (pos 0) = e ∙ ap (λ z. d *ℤ z) diff_read in
-      rw f (back (fits d (get_or from i (pos 0)) s small_at))
+-- a diff of a column is small
+pub small_at : (from : List ℤ) (i : ℕ) → i < length from → mass from ≤ most_diff → nat_abs (get_or from i (pos 0)) ≤ most_diff
+small_at from i k m = omega (arith, mass-at from i k)
 
 -- ---- the four columns
 pub small_still : (d : ℤ) → nat_abs d ≤ most_diff → nat_abs (to_z w64 (of_z w64 d)) ≤ most_diff
 small_still d h = rw (small_back d h) h
-
-pub lent-diffs : {d : ℤ} {ts vs : List ℕ} {ds : List ℤ} {n at : ℕ} → LentPairs d ts vs ds n at → (n ≤ length ds) × ((at + n < 2 ^ 63) × ((nat_abs (to_z w64 (of_z w64 d)) ≤ most_diff) × (mass (take n ds) ≤ most_diff)))
-lent-diffs {d} l = (l.in_diffs_lem, (l.counts, (small_still d l.small, l.all_small)))
 
 pub read_diffs : (d : ℤ) (s ds : List ℤ) (at : ℕ) {s' : List ℤ} → nat_abs d ≤ most_diff → s' ≡ over (map (λ e. to_z w64 (of_z w64 d) *ℤ e) ds) at s → s' ≡ over (map (λ e. d *ℤ e) ds) at s
 read_diffs d s ds at h e = rw (small_back d h) at e

@@ -7,9 +7,11 @@
 -- on_over, on_rest: what decides whether another turn is made. on_more, on_few, on_none: what follows if it is, and if it is not
 use Prim.Native.Nat.{ℕ, ◌-◌, ◌≤◌, ◌<◌, ◌+◌}
 use native.Mathlib.Omega.{arith}
-use mathlib.Core.Bool.{Bool, true, false}
+use mathlib.Core.Bool.{Bool, true, false, not}
 use mathlib.Core.List.{List, [], ◌∷◌, map}
-use mathlib.Core.Path.{◌≡◌, refl, sym, ◌∙◌}
+use mathlib.Core.Path.{◌≡◌, refl, sym, ◌∙◌, ap}
+use Rattle.std.specs.Prelude.{◌==◌}
+use Rattle.std.proofs.lemmas.Bool.Decides.{nat_tests}
 use lib.Dec.{ltb, leb}
 use lib.ListN.{length, take, drop, get_or, length-drop, drop_of_length-le}
 use lib.Seq.{take_all}
@@ -65,6 +67,9 @@ module _ (ss : List ℕ) (i : ℕ) (ts : List ℕ) (j : ℕ) where
       (λ t. let k : length ts ≤ j = ltb-false j (length ts) t in let n : drop j ts ≡ [] = drop_of_length-le ts {i = j} k in clash true refl (rw (n, drop_more ss i 0 (omega arith)) at e))
 
 -- ---- whether another turn is made
+positive : (n : ℕ) → not (n == 0) ≡ ltb 0 n
+positive n = grind (arith, nat_tests)
+
 pub on_over : (a b : ℕ) (s : Stand) → most_emissions < s.count → false ≡ goes_on a b s
 unfolding goes_on
 on_over a b s h = rw (lt-leb s.count most_emissions h)
@@ -79,9 +84,9 @@ module _ (ss : List ℕ) (i : ℕ) (ts : List ℕ) (j : ℕ) (u : i ≤ length s
       (λ t. let h : j < length ts = head_second ss i ts j e (ltb-true (i + j) (length ss + length ts) t) v in rw (e, t, length-drop) (lt-ltb 0 (length ts - j) (omega arith)))
       (λ t. let h : length ss + length ts ≤ i + j = ltb-false (i + j) (length ss + length ts) t in rw (e, t, length-drop) (le-ltb 0 (length ts - j) (omega arith))))
 
-  pub on_rest : (s : Stand) → s.first.at ≡ i → s.second.at ≡ j → s.count ≤ most_emissions → {rest : List ℕ} → rest ≡ chosen_times (drop i ss) (drop j ts) → ltb 0 (length rest) ≡ goes_on (length ss) (length ts) s
+  pub on_rest : (s : Stand) → s.first.at ≡ i → s.second.at ≡ j → s.count ≤ most_emissions → {rest : List ℕ} {b : Bool} → rest ≡ chosen_times (drop i ss) (drop j ts) → b ≡ (length rest == 0) → not b ≡ goes_on (length ss) (length ts) s
   unfolding goes_on
-  on_rest s p q h e = rw (e, le-leb s.count most_emissions h, p, q) rest_ahead
+  on_rest s p q h {rest} e f = ap not f ∙ positive (length rest) ∙ rw (e, le-leb s.count most_emissions h, p, q) rest_ahead
 
 module _ (a b : ℕ) (s : Stand) (e : goes_on a b s ≡ true) where
   pub on_few : s.count ≤ most_emissions

@@ -22,9 +22,9 @@ abbrev pub most_diff : ℕ
 most_diff = 1073741824
 
 pub record LentPairs (d : ℤ) (ts vs : List ℕ) (ds : List ℤ) (n at : ℕ) : Type 0 where
-  pub in_times_lem : n ≤ length ts
-  pub in_values_lem : n ≤ length vs
-  pub in_diffs_lem : n ≤ length ds
+  pub within_times : n ≤ length ts
+  pub within_values : n ≤ length vs
+  pub within_diffs : n ≤ length ds
   pub counts : at + n < 2 ^ 63
   pub small : nat_abs d ≤ most_diff
   pub all_small : mass (take n ds) ≤ most_diff

@@ -7,7 +7,7 @@ ghost use Rattle.consolidation.specs.Entries.{mass};
 use times::PackedTime;
 
 // Writes x at the place k, if there is one.
-fn write(s: &mut [u64], k: usize, x: u64)
+fn write<T: Copy>(s: &mut [T], k: usize, x: T)
     ensures { s.new ≡ set s.old k x }
 {
     if k < s.len() {
@@ -15,43 +15,23 @@ fn write(s: &mut [u64], k: usize, x: u64)
     }
 }
 
-fn write_diff(s: &mut [i64], k: usize, d: i64)
-    ensures { s.new ≡ set s.old k d }
+// Appends times, each joined with p.
+fn emit_times(p: PackedTime, from: &[u64], out: &mut [u64], at: usize)
+    requires { at + length from.now < 2 ^ 63 }
+    ensures { out.new ≡ over (map (join p.0) from.now) at out.old }
 {
-    if k < s.len() {
-        s[k] = d;
+    for (i, t) in from.iter().enumerate() {
+        write(out, at + i, p.join(PackedTime(*t)).0);
     }
 }
 
-fn product(d: i64, e: i64) -> i64
-    requires { (nat_abs d ≤ most_diff) × (nat_abs e ≤ most_diff) }
-    ensures { result ≡ d *ℤ e }
+// Appends values.
+fn emit_values(from: &[u64], out: &mut [u64], at: usize)
+    requires { at + length from.now < 2 ^ 63 }
+    ensures { out.new ≡ over from.now at out.old }
 {
-    d * e
-}
-
-// Appends the first n times, each joined with p.
-fn emit_times(p: PackedTime, from: &[u64], n: usize, out: &mut [u64], at: usize)
-    requires { (n ≤ length from.now) × (at + n < 2 ^ 63) }
-    ensures { out.new ≡ over (map (join p.0) (take n from.now)) at out.old }
-{
-    let mut i = 0;
-    while i < n {
-        let t = p.join(PackedTime(from[i]));
-        write(out, at + i, t.0);
-        i += 1;
-    }
-}
-
-// Appends the first n values.
-fn emit_values(from: &[u64], n: usize, out: &mut [u64], at: usize)
-    requires { (n ≤ length from.now) × (at + n < 2 ^ 63) }
-    ensures { out.new ≡ over (take n from.now) at out.old }
-{
-    let mut i = 0;
-    while i < n {
-        write(out, at + i, from[i]);
-        i += 1;
+    for (i, v) in from.iter().enumerate() {
+        write(out, at + i, *v);
     }
 }
 
@@ -60,23 +40,18 @@ fn emit_value(value: u64, n: usize, out: &mut [u64], at: usize)
     requires { at + n < 2 ^ 63 }
     ensures { out.new ≡ over (replicate n value) at out.old }
 {
-    let mut i = 0;
-    while i < n {
+    for i in 0..n {
         write(out, at + i, value);
-        i += 1;
     }
 }
 
-// Appends the first n diffs, each multiplied by d.
-fn emit_diffs(d: i64, from: &[i64], n: usize, out: &mut [i64], at: usize)
-    requires { (n ≤ length from.now) × ((at + n < 2 ^ 63) × ((nat_abs d ≤ most_diff) × (mass (take n from.now) ≤ most_diff))) }
-    ensures { out.new ≡ over (map (λ e. d *ℤ e) (take n from.now)) at out.old }
+// Appends diffs, each multiplied by d.
+fn emit_diffs(d: i64, from: &[i64], out: &mut [i64], at: usize)
+    requires { (at + length from.now < 2 ^ 63) × ((nat_abs d ≤ most_diff) × (mass from.now ≤ most_diff)) }
+    ensures { out.new ≡ over (map (λ e. d *ℤ e) from.now) at out.old }
 {
-    let mut i = 0;
-    while i < n {
-        let e = product(d, from[i]);
-        write_diff(out, at + i, e);
-        i += 1;
+    for (i, e) in from.iter().enumerate() {
+        write(out, at + i, d * *e);
     }
 }
 
@@ -99,8 +74,8 @@ pub fn emit_pairs(
     requires { LentPairs diff times.now values.now diffs.now n at }
     ensures { Pairs time.0 value diff (take n times.now) (take n values.now) (take n diffs.now) n at outtimes.old outvalues.old outothers.old outdiffs.old outtimes.new outvalues.new outothers.new outdiffs.new }
 {
-    emit_times(time, times, n, outtimes, at);
+    emit_times(time, &times[..n], outtimes, at);
     emit_value(value, n, outvalues, at);
-    emit_values(values, n, outothers, at);
-    emit_diffs(diff, diffs, n, outdiffs, at);
+    emit_values(&values[..n], outothers, at);
+    emit_diffs(diff, &diffs[..n], outdiffs, at);
 }

@@ -17,13 +17,7 @@ pub struct Stand {
 pub fn first_steps(first: &[u64], firstat: usize, second: &[u64], secondat: usize) -> bool
     ensures { result ≡ head_earlier (drop firstat first.now) (drop secondat second.now) }
 {
-    if firstat < first.len() {
-        if secondat < second.len() {
-            return first[firstat] < second[secondat];
-        }
-        return true;
-    }
-    false
+    firstat < first.len() && (secondat >= second.len() || first[firstat] < second[secondat])
 }
 
 // What remains of the run whose head is strictly earlier, else of the second.
@@ -37,9 +31,10 @@ pub fn head_first<'a>(
     ensures { result.now ≡ chosen_times (drop firstat first.now) (drop secondat second.now) }
 {
     if first_steps(first, firstat, second, secondat) {
-        return &first[firstat..first.len()];
+        &first[firstat..]
+    } else {
+        &second[secondat..]
     }
-    &second[secondat..second.len()]
 }
 
 // Whether another turn is made: the emissions are not too many yet, and of the history that steps something remains.
@@ -47,11 +42,5 @@ pub fn goes_on<'a>(first: &'a [u64], second: &'a [u64], s: Stand) -> bool
     requires { (s.first.at ≤ length first.now) × (s.second.at ≤ length second.now) }
     ensures { result ≡ goes_on (length first.now) (length second.now) s }
 {
-    if s.count > MOST_EMISSIONS {
-        return false;
-    }
-    let p = s.first;
-    let q = s.second;
-    let rest = head_first(first, p.at, second, q.at);
-    rest.len() > 0
+    s.count <= MOST_EMISSIONS && !head_first(first, s.first.at, second, s.second.at).is_empty()
 }

@@ -7,6 +7,7 @@ use Rattle.rules.specs.Memory.{Memory, Lent}
 use Rattle.form.proofs.Room.{most_text}
 use Rattle.demands.specs.Answers.{Retires}
 use Rattle.demands.specs.Lending.{needed}
+use Rattle.requests.specs.Statuses.{number_of}
 use Rattle.answers.specs.declared.Outcome.{Outcome}
 use Rattle.answering.specs.Replied.{Replied}
 use Rattle.telling.specs.Said.{counted}
@@ -14,7 +15,7 @@ use Rattle.telling.specs.Said.{counted}
 pub record Told (l : Lent) (counts counts' : List ℕ) (m : Memory) (r : ℕ) : Type 0 where
   pub outcome : Outcome
   pub retires : Retires needed l outcome m
-  pub status_is : r ≡ outcome.status
+  pub status_is : r ≡ number_of outcome.status
   pub counts_are : counts' ≡ counted outcome ++ drop 6 counts
 
 pub record Untouched (l : Lent) (counts counts' : List ℕ) (m : Memory) (r : ℕ) : Type 0 where

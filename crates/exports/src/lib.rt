@@ -12,6 +12,7 @@ ghost use Rattle.exports.specs.Exported.{Exported, Printed};
 
 use answering::{TEXT_SIZE, answer};
 use demands::{COLUMN_SIZE, MOMENTS_SIZE, column_needed, moments_needed};
+use requests::{Frontiers, Pending, Request, ResultMemory, Run, WorkMemory};
 use results::{DIFFS_SIZE, NUMBERS_SIZE};
 use retire::retire;
 use telling::tell;
@@ -99,39 +100,49 @@ pub fn daniskol_retire(
     if counts.len() < 6 {
         return 11;
     }
-    let r = retire(
+    let request = Request {
         mode,
         width,
-        lower,
-        upper,
-        held,
-        oldkeys,
-        oldvalues,
-        oldtimes,
-        olddiffs,
-        newkeys,
-        newvalues,
-        newtimes,
-        newdiffs,
-        outkeys,
-        outvalues,
-        outtimes,
-        outdiffs,
-        pendingkeys,
-        pendingtimes,
-        res,
-        rd,
-        moments,
-        tk,
-        tv,
-        tt,
-        uv,
-        ut,
-        td,
-        ud,
-    );
+        frontiers: Frontiers { lower, upper, held },
+        old: Run {
+            keys: oldkeys,
+            values: oldvalues,
+            times: oldtimes,
+            diffs: olddiffs,
+        },
+        new: Run {
+            keys: newkeys,
+            values: newvalues,
+            times: newtimes,
+            diffs: newdiffs,
+        },
+        out: Run {
+            keys: outkeys,
+            values: outvalues,
+            times: outtimes,
+            diffs: outdiffs,
+        },
+        pending: Pending {
+            keys: pendingkeys,
+            times: pendingtimes,
+        },
+    };
+    let mut results = ResultMemory {
+        numbers: res,
+        diffs: rd,
+    };
+    let mut work = WorkMemory {
+        keys: tk,
+        values: tv,
+        times: tt,
+        diffs: td,
+        out_values: uv,
+        out_times: ut,
+        out_diffs: ud,
+    };
+    let r = retire(&request, &mut results, moments, &mut work);
     tell(r, counts);
-    r.status
+    r.status.number()
 }
 
 // How many bytes the longest reply has.

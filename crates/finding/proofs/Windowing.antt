@@ -1,11 +1,10 @@
 -- The discovery of a window.
 --
 -- values_within, diffs_within: the input's part lies within its other columns. slot_lent: what one key's discovery asks of the parts. slot_window: what it leaves
--- parted_room, spans_lent: the columns of parts have one for each key, and it lies within its run. found_next, found_none: what is found from their fronts, key by key
--- SameLong: memory keeps its lengths. same_start, same_more: the loop keeps that. scratch_still, runs_still: so it still serves any key of the runs
+-- spans_lent: each part of a key lies within its run. found_next, found_none: what is found from their fronts, key by key
+-- SameLong: memory keeps its lengths. same_more: the loop keeps that. scratch_still, runs_still: so it still serves any key of the runs
 -- over-append: limits, window after window
--- Windowing: what the loop over the slots keeps. windowing_start, windowing_more, windowing_end: it does. windowing_room: there is room for one more key
--- eight_fit, next_fits, less_left, mends_here: the numbers of the loop
+-- Windowing: what the loop over the slots keeps. windowing_more, windowing_end: it does. windowing_room: there is room for one more key
 use Prim.Native.Nat.{ℕ, zero, suc, ◌+◌, ◌-◌, ◌*◌, ◌≤◌, ◌<◌}
 use native.Mathlib.Numerals.{add-one}
 use native.Mathlib.Omega.{arith}
@@ -13,23 +12,21 @@ use mathlib.Core.Bool.{Bool, true, false, ◌||◌}
 use mathlib.Core.List.{List, [], ◌∷◌, ◌++◌, append_assoc, append-nil, map, map-append}
 use mathlib.Core.Path.{◌≡◌, refl, sym, ◌∙◌, ap}
 use lib.Dec.{ltb}
-use mir.Syntax.{w64}
-use mir.Val.{Fits}
 use lib.IntN.{ℤ}
-use lib.ListN.{length, take, drop, get_or, set, replicate, length-append, length-take}
+use lib.ListN.{length, take, drop, get_or, set, replicate, length-append}
 use lib.Seq.{get_or-take}
 use borrow.Author.Tests.{ltb-true, lt-ltb, le-ltb}
 use Rattle.grid.specs.Lists.{any, flat}
 use Rattle.grid.proofs.Tests.{by-test, or_false_l}
 use Rattle.grid.proofs.Lists.{head}
 use Rattle.grid.proofs.Loops.{drop_more}
-use Rattle.grid.proofs.Slices.{Laying, laying_start, laying_more, laying_end}
+use Rattle.grid.proofs.Slices.{Laying, laying_more, laying_end}
 use Rattle.grid.proofs.Operations.{flat_append, any_append}
 use Rattle.rules.specs.Discover.{most_moments, State, discover}
 use Rattle.consolidation.specs.Entries.{mass}
 use Rattle.edits.specs.Edits.{edits}
 use Rattle.backends.specs.Segments.{part, ends, whole}
-use Rattle.backends.proofs.Columns.{all_drop, Writing, writing_start, writing_append, writing_end}
+use Rattle.backends.proofs.Columns.{all_drop, Writing, writing_append, writing_end}
 use Rattle.backends.proofs.Segments.{part_length, ends_next}
 use Rattle.keys.specs.Spans.{Within}
 use Rattle.keys.specs.declared.Span.{Span}
@@ -142,9 +139,6 @@ module _ (f : Span → Span → Span → Span → State) where
 
 -- ---- where the loop stands in the fronts of the columns
 module _ {n long : ℕ} (from to : List ℕ) {b : ℕ} (P : Parted n long (take n from) (take n to)) (h : b < n) where
-  pub parted_room : (b < length from) × (b < length to)
-  parted_room = (omega (arith, P.from_long, length-take n from), omega (arith, P.to_long, length-take n to))
-
   front_span : span_in (take n from) (take n to) b ≡ span_in from to b
   front_span = λ z. record { from = get_or-take n from b 0 h z; to = get_or-take n to b 0 h z }
 
@@ -198,9 +192,6 @@ pub record SameLong (seeds₀ times₀ values₀ : List ℕ) (diffs₀ : List �
   pub of_nexttimes : length nexttimes ≡ length nexttimes₀
   pub of_mends : length mends ≡ length mends₀
 
-pub same_start : {seeds times values : List ℕ} {diffs : List ℤ} {output meets waiting tracked moments pended work places wvalues : List ℕ} {wdiffs : List ℤ} {nextkeys nexttimes mends : List ℕ} → SameLong seeds times values diffs output meets waiting tracked moments pended work places wvalues wdiffs nextkeys nexttimes mends seeds times values diffs output meets waiting tracked moments pended work places wvalues wdiffs nextkeys nexttimes mends
-same_start = record { of_seeds = refl; of_times = refl; of_values = refl; of_diffs = refl; of_output = refl; of_meets = refl; of_waiting = refl; of_tracked = refl; of_moments = refl; of_pended = refl; of_work = refl; of_places = refl; of_wvalues = refl; of_wdiffs = refl; of_nextkeys = refl; of_nexttimes = refl; of_mends = refl }
-
 module _ {seeds₀ times₀ values₀ : List ℕ} {diffs₀ : List ℤ} {output₀ meets₀ waiting₀ tracked₀ moments₀ pended₀ work₀ places₀ wvalues₀ : List ℕ} {wdiffs₀ : List ℤ} {nextkeys₀ nexttimes₀ mends₀ : List ℕ} {seeds times values : List ℕ} {diffs : List ℤ} {output meets waiting tracked moments pended work places wvalues : List ℕ} {wdiffs : List ℤ} {nextkeys nexttimes mends : List ℕ} (S : SameLong seeds₀ times₀ values₀ diffs₀ output₀ meets₀ waiting₀ tracked₀ moments₀ pended₀ work₀ places₀ wvalues₀ wdiffs₀ nextkeys₀ nexttimes₀ mends₀ seeds times values diffs output meets waiting tracked moments pended work places wvalues wdiffs nextkeys nexttimes mends) where
   pub scratch_still : Scratch (length nextkeys₀) seeds₀ times₀ values₀ diffs₀ output₀ meets₀ waiting₀ tracked₀ pended₀ work₀ places₀ wvalues₀ wdiffs₀ → Scratch (length nextkeys) seeds times values diffs output meets waiting tracked pended work places wvalues wdiffs
   scratch_still c =
@@ -213,7 +204,7 @@ module _ {seeds₀ times₀ values₀ : List ℕ} {diffs₀ : List ℤ} {output�
         waiting_room = rw S.of_waiting c.waiting_room;
         tracked_room = rw (S.of_nextkeys, S.of_tracked) c.tracked_room;
         pended_room = rw S.of_pended c.pended_room;
-        work_room_lem = rw (S.of_nextkeys, S.of_work) c.work_room_lem;
+        work_room = rw (S.of_nextkeys, S.of_work) c.work_room;
         for_tracked = rw (S.of_tracked, S.of_work) c.for_tracked;
         places_room = rw (S.of_nextkeys, S.of_places) c.places_room;
         wvalues_room = rw (S.of_nextkeys, S.of_wvalues) c.wvalues_room;
@@ -309,21 +300,6 @@ pub record Windowing (most : ℕ) (keys : List ℕ) (Ds : List State) (p : Tally
   pub next_keys : w.over ≡ false → Writing nextkeys₀ p.pended (firsts_of (pended_row keys Ds)) nextkeys w.pended (firsts_of (pended_row (drop b keys) (drop b Ds)))
   pub next-times : w.over ≡ false → Writing nexttimes₀ p.pended (seconds_of (pended_row keys Ds)) nexttimes w.pended (seconds_of (pended_row (drop b keys) (drop b Ds)))
 
-pub windowing_start : {most : ℕ} {keys : List ℕ} (Ds : List State) {moments mends nextkeys nexttimes : List ℕ} {p : Tally} → LentWindow most keys moments mends nextkeys nexttimes p
-    → Windowing most keys Ds p mends nextkeys nexttimes moments mends nextkeys nexttimes 0 p
-windowing_start {keys = keys} Ds {moments} {mends} {nextkeys} {nexttimes} {p} l =
-    record {
-      within = omega arith;
-      moments_few = omega (arith, l.none_yet);
-      next_few = l.next_room.within;
-      over_is = refl;
-      row_long = λ _. rw l.none_yet (omega arith);
-      row_is = λ _. rw l.none_yet;
-      ends_are = λ _. rw l.none_yet (laying_start mends (ends 0 (moments_of Ds)));
-      next_keys = λ _. writing_start nextkeys p.pended (firsts_of (pended_row keys Ds));
-      next-times = λ _. writing_start nexttimes p.pended (seconds_of (pended_row keys Ds));
-    }
-
 module _ {most : ℕ} {keys : List ℕ} {Ds : List State} {p : Tally} {mends₀ nextkeys₀ nexttimes₀ moments mends nextkeys nexttimes : List ℕ} {b : ℕ} {w : Tally}
     (W : Windowing most keys Ds p mends₀ nextkeys₀ nexttimes₀ moments mends nextkeys nexttimes b w) where
   pub windowing_room : {moments₀ : List ℕ} → LentWindow most keys moments₀ mends₀ nextkeys₀ nexttimes₀ p → b < length keys → length moments ≡ length moments₀ → length nextkeys ≡ length nextkeys₀ → length nexttimes ≡ length nexttimes₀
@@ -395,17 +371,3 @@ module _ {most : ℕ} {keys : List ℕ} {Ds : List State} {p : Tally} {mends₀ 
         next_keys = λ o. writing_end (W.next_keys o) (ap firsts_of rows);
         next-times = λ o. writing_end (W.next-times o) (ap seconds_of rows);
       }
-
--- ---- numbers of the loop
-module _ {n b : ℕ} (f : n ≤ 64) (h : b < n) where
-  pub eight_fit : Fits w64 (b * 8)
-  eight_fit = omega arith
-
-  pub next_fits : Fits w64 (b + 1)
-  next_fits = omega arith
-
-pub less_left : (n b : ℕ) → b < n → n - (b + 1) < n - b
-less_left n b h = omega arith
-
-pub mends_here : {most : ℕ} {keys moments mends₀ nextkeys nexttimes : List ℕ} {p : Tally} (mends : List ℕ) {b : ℕ} → LentWindow most keys moments mends₀ nextkeys nexttimes p → length mends ≡ length mends₀ → b < length keys → b < length mends
-mends_here mends l e h = omega (arith, l.mends_room)

@@ -23,7 +23,7 @@ pub record Scratch (most : ℕ) (seeds times values : List ℕ) (diffs : List �
   pub waiting_room : suc most_moments ≤ length waiting
   pub tracked_room : most + suc most_moments ≤ length tracked
   pub pended_room : suc most_moments ≤ length pended
-  pub work_room_lem : most + most ≤ length work
+  pub work_room : most + most ≤ length work
   pub for_tracked : length tracked ≤ length work
   pub places_room : most + most ≤ length places
   pub wvalues_room : most + most ≤ length wvalues

@@ -63,12 +63,11 @@ pub fn find_window(
     requires parted { Parted (length keys.now) (length newtimes.now) (take (length keys.now) nfrom.now) (take (length keys.now) nto.now) × (Parted (length keys.now) (length pendingtimes.now) (take (length keys.now) pfrom.now) (take (length keys.now) pto.now) × (Parted (length keys.now) (length intimes.now) (take (length keys.now) ifrom.now) (take (length keys.now) ito.now) × Parted (length keys.now) (length outtimes.now) (take (length keys.now) ofrom.now) (take (length keys.now) oto.now))) }
     ensures { FindsWindow (length nextkeys.old) keys.now (fourfold (state_at upper.now newtimes.now pendingtimes.now intimes.now invalues.now indiffs.now outtimes.now) (spans_in (take (length keys.now) nfrom.now) (take (length keys.now) nto.now)) (spans_in (take (length keys.now) pfrom.now) (take (length keys.now) pto.now)) (spans_in (take (length keys.now) ifrom.now) (take (length keys.now) ito.now)) (spans_in (take (length keys.now) ofrom.now) (take (length keys.now) oto.now))) p mends.old nextkeys.old nexttimes.old moments.new mends.new nextkeys.new nexttimes.new result }
 {
-    let mut b = 0;
     let mut w = p;
-    while b < keys.len() {
+    for (b, key) in keys.iter().enumerate() {
         w = find_key(
             upper,
-            KeyHash(keys[b]),
+            KeyHash(*key),
             newtimes,
             span_at(nfrom, nto, b),
             pendingtimes,
@@ -98,7 +97,6 @@ pub fn find_window(
             w,
         );
         mends[b] = w.moments;
-        b += 1;
     }
     w
 }

@@ -3,7 +3,7 @@ ghost use Rattle.std.specs.Prelude.{length};
 ghost use Rattle.finding.specs.Tallies.{Scratch, LentTally, FindsSlot};
 ghost use Rattle.finding.specs.Windowed.{LentRuns, LentSpans, state_at};
 
-use keys::{Span, diffs_part, key_part};
+use keys::{Span, key_part};
 use tallies::{Tally, append_pended, pended_count, tally_with};
 use times::KeyHash;
 use views::discover_view;
@@ -52,7 +52,7 @@ pub fn find_key(
         key_part(pendingtimes, ps),
         key_part(intimes, ins),
         key_part(invalues, ins),
-        diffs_part(indiffs, ins),
+        key_part(indiffs, ins),
         key_part(outtimes, os),
         seeds,
         times,

@@ -16,7 +16,7 @@ use lib.Seq.{length-take-le}
 use borrow.Author.Tests.{ltb-false, leb-true, not-false}
 use Rattle.grid.specs.Lists.{any, every}
 use Rattle.grid.specs.Records.{Row, in_range, rows}
-use Rattle.grid.proofs.Tests.{by-test, clash, or_false_l, or_false_r}
+use Rattle.grid.proofs.Tests.{by-test, or_false_l, or_false_r}
 use Rattle.grid.proofs.Lists.{All, all_imp, map_all, every_all}
 use Rattle.grid.proofs.Operations.{no_length}
 use Rattle.rules.specs.Backends.{Sums}
@@ -25,7 +25,7 @@ use Rattle.backends.proofs.Columns.{less}
 use Rattle.slots.specs.Slots.{rows_in, rows_too_large}
 use Rattle.slots.proofs.Large.{large_fits}
 use Rattle.fixing.specs.Fixes.{fix_row, fix_rows, RowsListed, Appends}
-use Rattle.fixing.specs.Settle.{Fixes, FixedAt}
+use Rattle.fixing.specs.Settle.{Fixes, FixedAt, OverAt}
 
 -- ---- columns
 pub column_within : {A : Type 0} {before new after : List A} {r : ℕ} → Column before 0 new after r → r ≤ length after
@@ -78,9 +78,9 @@ any_out : (R : List Row) → any (λ (r : Row). not (in_range r.diff)) R ≡ not
 any_out [] = refl
 any_out (x ∷ R) = by-test (in_range x.diff) (λ e. rw e (any_out R)) (λ e. rw e)
 
-in_range_lem : (d : ℤ) → in_range d ≡ true → nat_abs d ≤ 2 ^ 31
+in_range_small : (d : ℤ) → in_range d ≡ true → nat_abs d ≤ 2 ^ 31
 unfolding in_range
-in_range_lem d e = leb-true (nat_abs d) 2147483648 e
+in_range_small d e = leb-true (nat_abs d) 2147483648 e
 
 large_rows : (most n : ℕ) (R : List Row) (cd : List ℤ) → map (λ (x : Row). x.diff) R ≡ cd → (not (every in_range cd) || ltb most (n + length cd)) ≡ rows_too_large most n R
 unfolding rows_too_large
@@ -110,7 +110,7 @@ module _ (most n k t : ℕ) (c : Sums) (h : rows_too_large most n (fix_rows k t 
   fixes_small =
       let few : (not (every in_range (diffs_of c)) || ltb most (n + length (diffs_of c))) ≡ false = large_rows most n (fix_rows k t c) (diffs_of c) (fix-diffs k t c) ∙ h in
       let e : every in_range (diffs_of c) ≡ true = not-false (every in_range (diffs_of c)) (or_false_l (not (every in_range (diffs_of c))) _ few) in
-      map_all (λ (y : ℕ × ℤ). y.1) c (all_imp in_range_lem (every_all in_range (diffs_of c) e))
+      map_all (λ (y : ℕ × ℤ). y.1) c (all_imp in_range_small (every_all in_range (diffs_of c) e))
 
 -- ---- a key's round
 module _ {most : ℕ} {iv : List ℕ} {id : List ℤ} {ov : List ℕ} {od : List ℤ} {cv : List ℕ} {cd : List ℤ} {fk fv ft : List ℕ} {fd : List ℤ} {n : ℕ} (x : Fixes most iv id ov od cv cd fk fv ft fd n)
@@ -121,8 +121,8 @@ module _ {most : ℕ} {iv : List ℕ} {id : List ℤ} {ov : List ℕ} {od : List
   large_is : (k t : ℕ) (b : Bool) → Large b → b ≡ rows_too_large most n (fix_rows k t c)
   large_is k t b h = h ∙ large_rows most n (fix_rows k t c) (take (r - 0) cd') (fix-diffs k t c ∙ sym (held_diffs a))
 
-  pub over_fixed : (k t : ℕ) → Large true → FixedAt most k t c cv cd n (record { count = r; fixes = n; large = true }) cv' cd' fk fv ft fd fk fv ft fd
-  over_fixed k t h = record { corrected = a; listed = record { large_is = large_is k t true h; fixes_are = λ q. clash true refl q; rows_are = λ q. clash true refl q } }
+  pub over_fixed : (k t : ℕ) → Large true → OverAt most k t c cv cd n cv' cd'
+  over_fixed k t h = record { corrected = (r, a); large_is = sym (large_is k t true h) }
 
   module _ (few : Large false) where
     pub append_asks : Appends (take (r - 0) cv') (take (r - 0) cd') fk fv ft fd n
@@ -134,7 +134,7 @@ module _ {most : ℕ} {iv : List ℕ} {id : List ℤ} {ov : List ℕ} {od : List
         record { same_c = ld ∙ sym lv; same_v = x.lent.long_v ∙ sym k; same_t = x.lent.long_t ∙ sym k; same_d = x.lent.long_d ∙ sym k; room = omega arith }
 
     pub append_fixed : (k t : ℕ) {fk' fv' ft' : List ℕ} {fd' : List ℤ} {m : ℕ} → RowsListed fk fv ft fd n (fix_rows k t (entries (take (r - 0) cv') (take (r - 0) cd'))) fk' fv' ft' fd' m
-        → FixedAt most k t c cv cd n (record { count = r; fixes = m; large = false }) cv' cd' fk fv ft fd fk' fv' ft' fd'
+        → FixedAt most k t c cv cd n (record { count = r; fixes = m }) cv' cd' fk fv ft fd fk' fv' ft' fd'
     append_fixed k t {fk'} {fv'} {ft'} {fd'} {m} l₀ =
         let l : RowsListed fk fv ft fd n (fix_rows k t c) fk' fv' ft' fd' m = subst (λ (s : Sums). RowsListed fk fv ft fd n (fix_rows k t s) fk' fv' ft' fd' m) (held_entries a) l₀ in
         let w : n ≤ most = x.fits in

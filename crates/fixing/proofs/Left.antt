@@ -2,7 +2,8 @@
 --
 -- listed: the corrections of the first n places of four columns. marked_from j: the marks of the rounds from the j-th on
 -- Left most k all left j n r: of the rounds `all` of the key k those `left` are still to be settled, and j are past; n corrections were listed at first, r are now
--- left_start: at first all are. left_more: a round settled leaves those after it. left_end, left_marks: where none is left, or the corrections are too large
+-- left_start: at first all are. left_more: a round settled leaves those after it. left_over: with one whose correction is too large all are too large
+-- left_end, left_marks: where none is left
 use Prim.Native.Nat.{ℕ, zero, suc, ◌+◌, ◌<◌, ◌≤◌}
 use native.Mathlib.Nat.{not-suc-le-zero, le_of_suc-le-suc}
 use native.Mathlib.Omega.{arith}
@@ -13,7 +14,7 @@ use lib.IntN.{ℤ}
 use lib.ListN.{length, take, drop, length-append, length-set}
 use Rattle.grid.specs.Lists.{flat}
 use Rattle.grid.specs.Records.{Row, rows}
-use Rattle.grid.proofs.Tests.{by-test, clash, or_l}
+use Rattle.grid.proofs.Tests.{or_l}
 use Rattle.rules.specs.Retire.{Round}
 use Rattle.slots.specs.Slots.{rows_in, crossed_in, rows_too_large}
 use Rattle.slots.proofs.Large.{not_large, large_append, large_fits}
@@ -47,47 +48,57 @@ marks_none (suc j) (m ∷ ms) = ap (λ l. m ∷ l) (marks_none j ms)
 abbrev pub listed : List ℕ → List ℕ → List ℕ → List ℤ → ℕ → List Row
 listed fk fv ft fd n = rows (take n fk) (take n fv) (take n ft) (take n fd)
 
-pub record Left (most k : ℕ) (all left : List Round) (j n r : ℕ) (large : Bool) (marks₀ marks fk₀ fv₀ ft₀ : List ℕ) (fd₀ : List ℤ) (fk fv ft : List ℕ) (fd : List ℤ) : Type 0 where
-  pub over : large ≡ true → rows_too_large most n (flat (rows_in k) all) ≡ true
-  pub large_is : large ≡ false → rows_too_large most n (flat (rows_in k) all) ≡ rows_too_large most r (flat (rows_in k) left)
-  pub fixes_are : large ≡ false → r + length (flat (rows_in k) left) ≡ n + length (flat (rows_in k) all)
-  pub rows_are : large ≡ false → listed fk fv ft fd r ++ flat (rows_in k) left ≡ listed fk₀ fv₀ ft₀ fd₀ n ++ flat (rows_in k) all
-  pub marks_are : large ≡ false → marked_from j (crossed_in left) marks ≡ marked (crossed_in all) marks₀
+pub record Left (most k : ℕ) (all left : List Round) (j n r : ℕ) (marks₀ marks fk₀ fv₀ ft₀ : List ℕ) (fd₀ : List ℤ) (fk fv ft : List ℕ) (fd : List ℤ) : Type 0 where
+  pub large_is : rows_too_large most n (flat (rows_in k) all) ≡ rows_too_large most r (flat (rows_in k) left)
+  pub fixes_are : r + length (flat (rows_in k) left) ≡ n + length (flat (rows_in k) all)
+  pub rows_are : listed fk fv ft fd r ++ flat (rows_in k) left ≡ listed fk₀ fv₀ ft₀ fd₀ n ++ flat (rows_in k) all
+  pub marks_are : marked_from j (crossed_in left) marks ≡ marked (crossed_in all) marks₀
   pub long_marks : length marks ≡ length marks₀
-  pub fits : large ≡ false → r ≤ most
+  pub fits : r ≤ most
 
-pub left_start : {most k n : ℕ} {rs : List Round} {marks fk fv ft : List ℕ} {fd : List ℤ} → n ≤ most → Left most k rs rs 0 n n false marks marks fk fv ft fd fk fv ft fd
-left_start h = record { over = λ e. clash false e refl; large_is = λ e. refl; fixes_are = λ e. refl; rows_are = λ e. refl; marks_are = λ e. refl; long_marks = refl; fits = λ e. h }
+pub left_start : {most k n : ℕ} {rs : List Round} {marks fk fv ft : List ℕ} {fd : List ℤ} → n ≤ most → Left most k rs rs 0 n n marks marks fk fv ft fd fk fv ft fd
+left_start h = record { large_is = refl; fixes_are = refl; rows_are = refl; marks_are = refl; long_marks = refl; fits = h }
 
 module _ {most k : ℕ} {all left : List Round} {j n r : ℕ} {marks₀ marks fk₀ fv₀ ft₀ : List ℕ} {fd₀ : List ℤ} {fk fv ft : List ℕ} {fd : List ℤ} where
-  pub left_more : {x : Round} {left' : List Round} {r' : ℕ} {large : Bool} {marks' fk' fv' ft' : List ℕ} {fd' : List ℤ}
-      → Left most k all (x ∷ left) j n r false marks₀ marks fk₀ fv₀ ft₀ fd₀ fk fv ft fd → Listed most (rows_in k x) r large r' fk fv ft fd fk' fv' ft' fd'
-      → j < length marks → marks' ≡ marked_at x.crossed j marks → left ≡ left' → Left most k all left' (j + 1) n r' large marks₀ marks' fk₀ fv₀ ft₀ fd₀ fk' fv' ft' fd'
-  left_more {x} {left'} {r'} {large} {marks'} {fk'} {fv'} {ft'} {fd'} l d h m e =
-      let R : List Row = rows_in k x in
-      let later : List Row = flat (rows_in k) left in
-      let w : rows_too_large most n (flat (rows_in k) all) ≡ rows_too_large most r (R ++ later) = l.large_is refl in
-      let f : r + length (R ++ later) ≡ n + length (flat (rows_in k) all) = l.fixes_are refl in
-      let g : length (R ++ later) ≡ length R + length later = length-append R later in
-      let s : flat (rows_in k) left' ≡ later = ap (flat (rows_in k)) (sym e) in
-      let s' : length (flat (rows_in k) left') ≡ length later = ap length s in
-      record {
-        over = λ p. w ∙ large_append most r R later ∙ or_l _ _ (sym d.large_is ∙ p);
-        large_is = λ p. w ∙ large_append most r R later ∙ ap (λ b. b || rows_too_large most (r + length R) later) (sym d.large_is ∙ p) ∙ (let a = sym (d.fixes_are p) in let b = sym s in λ z. rows_too_large most (a z) (b z));
-        fixes_are = λ p. (let a : r' ≡ r + length R = d.fixes_are p in omega arith);
-        rows_are = λ p. ap (λ t. listed fk' fv' ft' fd' r' ++ t) s ∙ ap (λ t. t ++ later) (d.rows_are p) ∙ append_assoc (listed fk fv ft fd r) R later ∙ l.rows_are refl;
-        marks_are = λ p. (let q : j + 1 ≡ suc j = omega arith in let e' = sym e in λ z. marked_from (q z) (crossed_in (e' z)) (m z)) ∙ marks_more x.crossed (crossed_in left) j marks h ∙ l.marks_are refl;
-        long_marks = ap length m ∙ marks_long x.crossed j marks ∙ l.long_marks;
-        fits = λ p. (let a : r' ≡ r + length R = d.fixes_are p in let b : r + length R ≤ most = large_fits r R (sym d.large_is ∙ p) in omega arith);
-      }
+  module _ {x : Round} (l : Left most k all (x ∷ left) j n r marks₀ marks fk₀ fv₀ ft₀ fd₀ fk fv ft fd) where
+    abbrev R : List Row
+    R = rows_in k x
 
-  module _ {large : Bool} (l : Left most k all left j n r large marks₀ marks fk₀ fv₀ ft₀ fd₀ fk fv ft fd) (e : large ≡ false → left ≡ []) where
-    pub left_end : Listed most (flat (rows_in k) all) n large r fk₀ fv₀ ft₀ fd₀ fk fv ft fd
-    left_end = record {
-      large_is = by-test large (λ p. p ∙ sym (l.over p)) (λ p. p ∙ sym (l.large_is p ∙ ap (λ s. rows_too_large most r (flat (rows_in k) s)) (e p) ∙ not_large r (l.fits p)));
-      fixes_are = λ p. (let a : length (flat (rows_in k) left) ≡ 0 = ap (λ s. length (flat (rows_in k) s)) (e p) in let b : r + length (flat (rows_in k) left) ≡ n + length (flat (rows_in k) all) = l.fixes_are p in omega arith);
-      rows_are = λ p. sym (append-nil (listed fk fv ft fd r)) ∙ ap (λ s. listed fk fv ft fd r ++ flat (rows_in k) s) (sym (e p)) ∙ l.rows_are p;
-    }
+    abbrev later : List Row
+    later = flat (rows_in k) left
 
-    pub left_marks : large ≡ false → marks ≡ marked (crossed_in all) marks₀
-    left_marks p = sym (marks_none j marks) ∙ ap (λ s. marked_from j (crossed_in s) marks) (sym (e p)) ∙ l.marks_are p
+    split_large : rows_too_large most n (flat (rows_in k) all) ≡ (rows_too_large most r R || rows_too_large most (r + length R) later)
+    split_large = l.large_is ∙ large_append most r R later
+
+    pub left_over : rows_too_large most r (rows_in k x) ≡ true → rows_too_large most n (flat (rows_in k) all) ≡ true
+    left_over e = split_large ∙ or_l _ _ e
+
+    pub left_more : {left' : List Round} {r' : ℕ} {marks' fk' fv' ft' : List ℕ} {fd' : List ℤ} → Listed most (rows_in k x) r false r' fk fv ft fd fk' fv' ft' fd'
+        → j < length marks → marks' ≡ marked_at x.crossed j marks → left ≡ left' → Left most k all left' (j + 1) n r' marks₀ marks' fk₀ fv₀ ft₀ fd₀ fk' fv' ft' fd'
+    left_more {left'} {r'} {marks'} {fk'} {fv'} {ft'} {fd'} d h m e =
+        let g : length (R ++ later) ≡ length R + length later = length-append R later in
+        let s : flat (rows_in k) left' ≡ later = ap (flat (rows_in k)) (sym e) in
+        let s' : length (flat (rows_in k) left') ≡ length later = ap length s in
+        let a : r' ≡ r + length R = d.fixes_are refl in
+        let b : r + length R ≤ most = large_fits r R (sym d.large_is) in
+        record {
+          large_is = split_large ∙ ap (λ b. b || rows_too_large most (r + length R) later) (sym d.large_is) ∙ (let a' = sym a in let b' = sym s in λ z. rows_too_large most (a' z) (b' z));
+          fixes_are = omega (arith, l.fixes_are);
+          rows_are = ap (λ t. listed fk' fv' ft' fd' r' ++ t) s ∙ ap (λ t. t ++ later) (d.rows_are refl) ∙ append_assoc (listed fk fv ft fd r) R later ∙ l.rows_are;
+          marks_are = (let q : j + 1 ≡ suc j = omega arith in let e' = sym e in λ z. marked_from (q z) (crossed_in (e' z)) (m z)) ∙ marks_more x.crossed (crossed_in left) j marks h ∙ l.marks_are;
+          long_marks = ap length m ∙ marks_long x.crossed j marks ∙ l.long_marks;
+          fits = omega arith;
+        }
+
+  module _ (l : Left most k all left j n r marks₀ marks fk₀ fv₀ ft₀ fd₀ fk fv ft fd) (e : left ≡ []) where
+    pub left_end : Listed most (flat (rows_in k) all) n false r fk₀ fv₀ ft₀ fd₀ fk fv ft fd
+    left_end =
+        let a : length (flat (rows_in k) left) ≡ 0 = ap (λ s. length (flat (rows_in k) s)) e in
+        record {
+          large_is = sym (l.large_is ∙ ap (λ s. rows_too_large most r (flat (rows_in k) s)) e ∙ not_large r l.fits);
+          fixes_are = λ p. omega (arith, l.fixes_are);
+          rows_are = λ p. sym (append-nil (listed fk fv ft fd r)) ∙ ap (λ s. listed fk fv ft fd r ++ flat (rows_in k) s) (sym e) ∙ l.rows_are;
+        }
+
+    pub left_marks : marks ≡ marked (crossed_in all) marks₀
+    left_marks = sym (marks_none j marks) ∙ ap (λ s. marked_from j (crossed_in s) marks) (sym e) ∙ l.marks_are

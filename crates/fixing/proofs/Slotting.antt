@@ -1,24 +1,21 @@
 -- The loop over the keys of a window.
 --
 -- WindowLeft most mode all left n r: of the slots `all` those `left` are still to be settled; n corrections were listed at first, r are now
--- window_start: at first all are. window_more: a slot settled leaves those after it. window_end: where none is left, or the corrections are too large
+-- window_start: at first all are. window_more: a slot settled leaves those after it. window_over: with one that is too large all are. window_end: none is left
 -- crossed_by: in which of its rounds each slot crosses. lent_again: memory of the same lengths
 -- slots_from b g: the slots from the b-th on, whose moments begin at g
--- Slotting: the slots before b are settled, or the corrections are too large. slotting_start, slotting_more, slotting_kept, slotting_end: the loop keeps
--- that, and all lengths
--- in_keys_lem, slot_reads, slot_input, slot_output, slot_moments, slot_places, slot_laid, slot_out, slot_lent, slotting_fits, slotting_less: what a turn asks
+-- Slotting: the slots before b are settled. slotting_start, slotting_more, slotting_end: the loop keeps that
+-- slotting_over: what is left then where a slot's corrections are too large
+-- slot_reads, slot_input, slot_output, slot_moments, slot_places, slot_laid, slot_out, slot_lent: what a turn asks
 use Prim.Native.Nat.{ℕ, ◌+◌, ◌-◌, ◌*◌, ◌<◌, ◌≤◌, ◌^◌}
 use native.Mathlib.Omega.{arith}
-use mathlib.Core.Bool.{Bool, true, false, ◌&&◌, ◌||◌, not}
+use mathlib.Core.Bool.{Bool, false, ◌||◌}
 use mathlib.Core.Path.{◌≡◌, refl, sym, ◌∙◌, ap, subst}
 use mathlib.Core.List.{List, [], ◌∷◌, ◌++◌, map, append-nil, append_assoc}
-use lib.Dec.{ltb}
 use lib.IntN.{ℤ}
 use lib.ListN.{length, drop, get_or, length-append, drop_of_length-le}
-use borrow.Author.Tests.{ltb-true, ltb-false, not-true}
-use Rattle.progress.proofs.Going.{goes_now}
 use Rattle.grid.specs.Records.{Row, most_records}
-use Rattle.grid.proofs.Tests.{by-test, clash, and_l, and_r, or_l}
+use Rattle.grid.proofs.Tests.{or_l}
 use Rattle.grid.proofs.Loops.{drop_more}
 use Rattle.rules.specs.Histories.{Edit}
 use Rattle.rules.specs.Discover.{most_moments}
@@ -31,8 +28,7 @@ use Rattle.moments.proofs.Showing.{apart_past, apart_next, parts_next}
 use Rattle.slots.specs.Slots.{Slot, slots_of, slot_rounds, slot_rows, crossed_in, window_rows, rows_too_large}
 use Rattle.slots.proofs.Large.{not_large, large_append, large_fits}
 use Rattle.marks.specs.Marks.{marked_all}
-use Rattle.fixing.specs.declared.Settled.{Settled}
-use Rattle.fixing.specs.Settle.{Listed, KeySettled, WindowSettled}
+use Rattle.fixing.specs.Settle.{Listed, KeySettled, KeyOver, WindowSettled, WindowOver}
 use Rattle.fixing.specs.Windows.{LentRounds, Slotted}
 use Rattle.fixing.proofs.Left.{listed}
 
@@ -40,16 +36,15 @@ use Rattle.fixing.proofs.Left.{listed}
 abbrev pub crossed_by : ℕ → List Slot → List (List Bool)
 crossed_by mode ss = map (λ s. crossed_in (slot_rounds mode s)) ss
 
-pub record WindowLeft (most mode : ℕ) (all left : List Slot) (n r : ℕ) (large : Bool) (marks₀ marks fk₀ fv₀ ft₀ : List ℕ) (fd₀ : List ℤ) (fk fv ft : List ℕ) (fd : List ℤ) : Type 0 where
-  pub over : large ≡ true → rows_too_large most n (window_rows mode all) ≡ true
-  pub large_is : large ≡ false → rows_too_large most n (window_rows mode all) ≡ rows_too_large most r (window_rows mode left)
-  pub fixes_are : large ≡ false → r + length (window_rows mode left) ≡ n + length (window_rows mode all)
-  pub rows_are : large ≡ false → listed fk fv ft fd r ++ window_rows mode left ≡ listed fk₀ fv₀ ft₀ fd₀ n ++ window_rows mode all
-  pub marks_are : large ≡ false → marked_all (crossed_by mode left) marks ≡ marked_all (crossed_by mode all) marks₀
-  pub fits : large ≡ false → r ≤ most
+pub record WindowLeft (most mode : ℕ) (all left : List Slot) (n r : ℕ) (marks₀ marks fk₀ fv₀ ft₀ : List ℕ) (fd₀ : List ℤ) (fk fv ft : List ℕ) (fd : List ℤ) : Type 0 where
+  pub large_is : rows_too_large most n (window_rows mode all) ≡ rows_too_large most r (window_rows mode left)
+  pub fixes_are : r + length (window_rows mode left) ≡ n + length (window_rows mode all)
+  pub rows_are : listed fk fv ft fd r ++ window_rows mode left ≡ listed fk₀ fv₀ ft₀ fd₀ n ++ window_rows mode all
+  pub marks_are : marked_all (crossed_by mode left) marks ≡ marked_all (crossed_by mode all) marks₀
+  pub fits : r ≤ most
 
-pub window_start : {most mode n : ℕ} {ss : List Slot} {marks fk fv ft : List ℕ} {fd : List ℤ} → n ≤ most → WindowLeft most mode ss ss n n false marks marks fk fv ft fd fk fv ft fd
-window_start h = record { over = λ e. clash false e refl; large_is = λ e. refl; fixes_are = λ e. refl; rows_are = λ e. refl; marks_are = λ e. refl; fits = λ e. h }
+pub window_start : {most mode n : ℕ} {ss : List Slot} {marks fk fv ft : List ℕ} {fd : List ℤ} → n ≤ most → WindowLeft most mode ss ss n n marks marks fk fv ft fd fk fv ft fd
+window_start h = record { large_is = refl; fixes_are = refl; rows_are = refl; marks_are = refl; fits = h }
 
 module _ (mode : ℕ) (s : Slot) (ss : List Slot) where
   rows_split : window_rows mode (s ∷ ss) ≡ slot_rows mode s ++ window_rows mode ss
@@ -57,49 +52,56 @@ module _ (mode : ℕ) (s : Slot) (ss : List Slot) where
   rows_split = refl
 
 module _ {most mode : ℕ} {all left : List Slot} {s : Slot} {n r : ℕ} {marks₀ marks fk₀ fv₀ ft₀ : List ℕ} {fd₀ : List ℤ} {fk fv ft : List ℕ} {fd : List ℤ}
-    (l : WindowLeft most mode all (s ∷ left) n r false marks₀ marks fk₀ fv₀ ft₀ fd₀ fk fv ft fd)
-    {q : Settled} {marks' fk' fv' ft' : List ℕ} {fd' : List ℤ}
-    (d : KeySettled most mode s.key s.input s.output s.moments r q marks marks' fk fv ft fd fk' fv' ft' fd') where
+    (l : WindowLeft most mode all (s ∷ left) n r marks₀ marks fk₀ fv₀ ft₀ fd₀ fk fv ft fd) where
   abbrev R : List Row
   R = slot_rows mode s
 
   abbrev S : List Row
   S = window_rows mode left
 
-  key_listed : Listed most R r q.large q.fixes fk fv ft fd fk' fv' ft' fd'
+  split_large : rows_too_large most n (window_rows mode all) ≡ (rows_too_large most r R || rows_too_large most (r + length R) S)
+  split_large = l.large_is ∙ ap (rows_too_large most r) (rows_split mode s left) ∙ large_append most r R S
+
+  pub window_over : KeyOver most mode s.key s.input s.output s.moments r → WindowOver most mode all n
   unfolding slot_rounds
-  key_listed = d.listed
+  window_over e = split_large ∙ or_l _ _ e
 
-  key_marked : q.large ≡ false → marked_all (crossed_by mode left) marks' ≡ marked_all (crossed_by mode (s ∷ left)) marks
-  unfolding slot_rounds marked_all
-  key_marked e = ap (marked_all (crossed_by mode left)) (d.marks_are e)
+  module _ {q : ℕ} {marks' fk' fv' ft' : List ℕ} {fd' : List ℤ} (d : KeySettled most mode s.key s.input s.output s.moments r q marks marks' fk fv ft fd fk' fv' ft' fd') where
+    key_listed : Listed most R r false q fk fv ft fd fk' fv' ft' fd'
+    unfolding slot_rounds
+    key_listed = d.listed
 
-  pub window_more : WindowLeft most mode all left n q.fixes q.large marks₀ marks' fk₀ fv₀ ft₀ fd₀ fk' fv' ft' fd'
-  window_more =
-      let h = key_listed in
-      let n₀ : rows_too_large most n (window_rows mode all) ≡ rows_too_large most r (R ++ S) = l.large_is refl ∙ ap (rows_too_large most r) (rows_split mode s left) in
-      let f : r + length (window_rows mode (s ∷ left)) ≡ n + length (window_rows mode all) = l.fixes_are refl in
-      let k : length (window_rows mode (s ∷ left)) ≡ length R + length S = ap length (rows_split mode s left) ∙ length-append R S in
-      record {
-        over = λ e. n₀ ∙ large_append most r R S ∙ or_l _ _ (sym h.large_is ∙ e);
-        large_is = λ e. n₀ ∙ large_append most r R S ∙ ap (λ b. b || rows_too_large most (r + length R) S) (sym h.large_is ∙ e) ∙ ap (λ i. rows_too_large most i S) (sym (h.fixes_are e));
-        fixes_are = λ e. (let g : q.fixes ≡ r + length R = h.fixes_are e in omega arith);
-        rows_are = λ e. ap (λ z. z ++ S) (h.rows_are e) ∙ append_assoc (listed fk fv ft fd r) R S ∙ ap (λ z. listed fk fv ft fd r ++ z) (sym (rows_split mode s left)) ∙ l.rows_are refl;
-        marks_are = λ e. key_marked e ∙ l.marks_are refl;
-        fits = λ e. (let g : q.fixes ≡ r + length R = h.fixes_are e in let x : r + length R ≤ most = large_fits r R (sym h.large_is ∙ e) in omega arith);
-      }
+    key_marked : marked_all (crossed_by mode left) marks' ≡ marked_all (crossed_by mode (s ∷ left)) marks
+    unfolding slot_rounds marked_all
+    key_marked = ap (marked_all (crossed_by mode left)) d.marks_are
 
-pub window_end : {most mode : ℕ} {all left : List Slot} {n : ℕ} {q : Settled} {marks₀ marks fk₀ fv₀ ft₀ : List ℕ} {fd₀ : List ℤ} {fk fv ft : List ℕ} {fd : List ℤ}
-    → WindowLeft most mode all left n q.fixes q.large marks₀ marks fk₀ fv₀ ft₀ fd₀ fk fv ft fd → (q.large ≡ false → left ≡ []) → WindowSettled most mode all n q marks₀ marks fk₀ fv₀ ft₀ fd₀ fk fv ft fd
+    pub window_more : WindowLeft most mode all left n q marks₀ marks' fk₀ fv₀ ft₀ fd₀ fk' fv' ft' fd'
+    window_more =
+        let h = key_listed in
+        let g : q ≡ r + length R = h.fixes_are refl in
+        let x : r + length R ≤ most = large_fits r R (sym h.large_is) in
+        let k : length (window_rows mode (s ∷ left)) ≡ length R + length S = ap length (rows_split mode s left) ∙ length-append R S in
+        record {
+          large_is = split_large ∙ ap (λ b. b || rows_too_large most (r + length R) S) (sym h.large_is) ∙ ap (λ i. rows_too_large most i S) (sym g);
+          fixes_are = omega (arith, l.fixes_are);
+          rows_are = ap (λ z. z ++ S) (h.rows_are refl) ∙ append_assoc (listed fk fv ft fd r) R S ∙ ap (λ z. listed fk fv ft fd r ++ z) (sym (rows_split mode s left)) ∙ l.rows_are;
+          marks_are = key_marked ∙ l.marks_are;
+          fits = omega arith;
+        }
+
+pub window_end : {most mode : ℕ} {all left : List Slot} {n r : ℕ} {marks₀ marks fk₀ fv₀ ft₀ : List ℕ} {fd₀ : List ℤ} {fk fv ft : List ℕ} {fd : List ℤ}
+    → WindowLeft most mode all left n r marks₀ marks fk₀ fv₀ ft₀ fd₀ fk fv ft fd → left ≡ [] → WindowSettled most mode all n r marks₀ marks fk₀ fv₀ ft₀ fd₀ fk fv ft fd
 unfolding window_rows marked_all
-window_end {most} {mode} {all} {left} {n} {q} {marks₀} {marks} {fk₀} {fv₀} {ft₀} {fd₀} {fk} {fv} {ft} {fd} l f = record {
-  listed = record {
-    large_is = by-test q.large (λ e. e ∙ sym (l.over e)) (λ e. e ∙ sym (l.large_is e ∙ ap (λ z. rows_too_large most q.fixes (window_rows mode z)) (f e) ∙ not_large q.fixes (l.fits e)));
-    fixes_are = λ e. (let a : q.fixes + length (window_rows mode left) ≡ n + length (window_rows mode all) = l.fixes_are e in let b : length (window_rows mode left) ≡ 0 = ap (λ z. length (window_rows mode z)) (f e) in omega arith);
-    rows_are = λ e. sym (append-nil (listed fk fv ft fd q.fixes)) ∙ ap (λ z. listed fk fv ft fd q.fixes ++ window_rows mode z) (sym (f e)) ∙ l.rows_are e;
-  };
-  marks_are = λ e. ap (λ z. marked_all (crossed_by mode z) marks) (sym (f e)) ∙ l.marks_are e;
-}
+window_end {most} {mode} {all} {left} {n} {r} {marks₀} {marks} {fk₀} {fv₀} {ft₀} {fd₀} {fk} {fv} {ft} {fd} l f =
+    let b : length (window_rows mode left) ≡ 0 = ap (λ z. length (window_rows mode z)) f in
+    record {
+      listed = record {
+        large_is = sym (l.large_is ∙ ap (λ z. rows_too_large most r (window_rows mode z)) f ∙ not_large r l.fits);
+        fixes_are = λ e. omega (arith, l.fixes_are);
+        rows_are = λ e. sym (append-nil (listed fk fv ft fd r)) ∙ ap (λ z. listed fk fv ft fd r ++ window_rows mode z) (sym f) ∙ l.rows_are;
+      };
+      marks_are = ap (λ z. marked_all (crossed_by mode z) marks) (sym f) ∙ l.marks_are;
+    }
 
 -- ---- the memory
 pub lent_again : {most : ℕ} {uv ut : List ℕ} {ud : List ℤ} {iv : List ℕ} {id : List ℤ} {ov : List ℕ} {od : List ℤ} {cv : List ℕ} {cd : List ℤ} {marks fk fv ft : List ℕ} {fd : List ℤ} {n : ℕ} → LentRounds most uv ut ud iv id ov od cv cd marks fk fv ft fd n
@@ -130,7 +132,7 @@ abbrev pub slots_from : List ℕ → List ℕ → List ℕ → List ℕ → List
 slots_from keys moments mends fs es is ofs oes os b g = slots_of (drop b keys) (parts_of (drop b fs) (drop b es) is) (parts_of (drop b ofs) (drop b oes) os) (segments g (drop b mends) moments)
 
 pub record Slotting (most mode : ℕ) (keys moments mends fs es tv tt : List ℕ) (td : List ℤ) (ofs oes xv xt : List ℕ) (xd : List ℤ) (n : ℕ) (uv₀ ut₀ : List ℕ) (ud₀ : List ℤ) (iv₀ : List ℕ) (id₀ : List ℤ) (ov₀ : List ℕ) (od₀ : List ℤ) (cv₀ : List ℕ) (cd₀ : List ℤ) (marks₀ fk₀ fv₀ ft₀ : List ℕ) (fd₀ : List ℤ)
-    (uv ut : List ℕ) (ud : List ℤ) (iv : List ℕ) (id : List ℤ) (ov : List ℕ) (od : List ℤ) (cv : List ℕ) (cd : List ℤ) (marks fk fv ft : List ℕ) (fd : List ℤ) (b g : ℕ) (r : Settled) : Type 0 where
+    (uv ut : List ℕ) (ud : List ℤ) (iv : List ℕ) (id : List ℤ) (ov : List ℕ) (od : List ℤ) (cv : List ℕ) (cd : List ℤ) (marks fk fv ft : List ℕ) (fd : List ℤ) (b g r : ℕ) : Type 0 where
   pub asks : Slotted most (length keys) moments mends fs es tv tt td ofs oes xv xt xd
   pub lent₀ : LentRounds most uv₀ ut₀ ud₀ iv₀ id₀ ov₀ od₀ cv₀ cd₀ marks₀ fk₀ fv₀ ft₀ fd₀ n
   pub lent : LentRounds most uv ut ud iv id ov od cv cd marks fk fv ft fd 0
@@ -140,11 +142,11 @@ pub record Slotting (most mode : ℕ) (keys moments mends fs es tv tt : List ℕ
   pub cut : Cut (λ m. length m ≤ most_moments) moments g (drop b mends)
   pub near : g ≤ b * most_moments
   pub left : WindowLeft most mode (slots_from keys moments mends fs es (edits tv tt td) ofs oes (edits xv xt xd) 0 0) (slots_from keys moments mends fs es (edits tv tt td) ofs oes (edits xv xt xd) b g)
-      n r.fixes r.large marks₀ marks fk₀ fv₀ ft₀ fd₀ fk fv ft fd
+      n r marks₀ marks fk₀ fv₀ ft₀ fd₀ fk fv ft fd
 
 pub slotting_start : {most : ℕ} {keys moments mends fs es tv tt : List ℕ} {td : List ℤ} {ofs oes xv xt : List ℕ} {xd : List ℤ} {n : ℕ} {uv ut : List ℕ} {ud : List ℤ} {iv : List ℕ} {id : List ℤ} {ov : List ℕ} {od : List ℤ} {cv : List ℕ} {cd : List ℤ} {marks fk fv ft : List ℕ} {fd : List ℤ}
     (mode : ℕ) → Slotted most (length keys) moments mends fs es tv tt td ofs oes xv xt xd → LentRounds most uv ut ud iv id ov od cv cd marks fk fv ft fd n
-    → Slotting most mode keys moments mends fs es tv tt td ofs oes xv xt xd n uv ut ud iv id ov od cv cd marks fk fv ft fd uv ut ud iv id ov od cv cd marks fk fv ft fd 0 0 (record { fixes = n; large = false })
+    → Slotting most mode keys moments mends fs es tv tt td ofs oes xv xt xd n uv ut ud iv id ov od cv cd marks fk fv ft fd uv ut ud iv id ov od cv cd marks fk fv ft fd 0 0 n
 slotting_start mode a l = record {
   asks = a;
   lent₀ = l;
@@ -158,19 +160,15 @@ slotting_start mode a l = record {
 }
 
 module _ {most mode : ℕ} {keys moments mends fs es tv tt : List ℕ} {td : List ℤ} {ofs oes xv xt : List ℕ} {xd : List ℤ} {n : ℕ} {uv₀ ut₀ : List ℕ} {ud₀ : List ℤ} {iv₀ : List ℕ} {id₀ : List ℤ} {ov₀ : List ℕ} {od₀ : List ℤ} {cv₀ : List ℕ} {cd₀ : List ℤ} {marks₀ fk₀ fv₀ ft₀ : List ℕ} {fd₀ : List ℤ}
-    {uv ut : List ℕ} {ud : List ℤ} {iv : List ℕ} {id : List ℤ} {ov : List ℕ} {od : List ℤ} {cv : List ℕ} {cd : List ℤ} {marks fk fv ft : List ℕ} {fd : List ℤ} {b g : ℕ} {r : Settled}
+    {uv ut : List ℕ} {ud : List ℤ} {iv : List ℕ} {id : List ℤ} {ov : List ℕ} {od : List ℤ} {cv : List ℕ} {cd : List ℤ} {marks fk fv ft : List ℕ} {fd : List ℤ} {b g r : ℕ}
     (m : Slotting most mode keys moments mends fs es tv tt td ofs oes xv xt xd n uv₀ ut₀ ud₀ iv₀ id₀ ov₀ od₀ cv₀ cd₀ marks₀ fk₀ fv₀ ft₀ fd₀ uv ut ud iv id ov od cv cd marks fk fv ft fd b g r) where
-  pub slotting_kept : (length uv ≡ length uv₀) × ((length ut ≡ length ut₀) × ((length ud ≡ length ud₀) × ((length iv ≡ length iv₀) × ((length id ≡ length id₀) × ((length ov ≡ length ov₀) × ((length od ≡ length od₀) × ((length cv ≡ length cv₀) × ((length cd ≡ length cd₀) × ((length marks ≡ length marks₀) × ((length fk ≡ length fk₀) × ((length fv ≡ length fv₀) × ((length ft ≡ length ft₀) × (length fd ≡ length fd₀)))))))))))))
-  slotting_kept = (m.lent.long_uv ∙ sym m.lent₀.long_uv, (m.lent.long_ut ∙ sym m.lent₀.long_ut, (m.lent.long_ud ∙ sym m.lent₀.long_ud, (m.lent.sums.long_iv ∙ sym m.lent₀.sums.long_iv, (m.lent.sums.long_id ∙ sym m.lent₀.sums.long_id, (m.lent.sums.long_ov ∙ sym m.lent₀.sums.long_ov, (m.lent.sums.long_od ∙ sym m.lent₀.sums.long_od, (m.lent.sums.long_cv ∙ sym m.lent₀.sums.long_cv, (m.lent.sums.long_cd ∙ sym m.lent₀.sums.long_cd, (m.lent.long_marks ∙ sym m.lent₀.long_marks, (m.lent.lent.long_k ∙ sym m.lent₀.lent.long_k, (m.lent.lent.long_v ∙ sym m.lent₀.lent.long_v, (m.lent.lent.long_t ∙ sym m.lent₀.lent.long_t, m.lent.lent.long_d ∙ sym m.lent₀.lent.long_d)))))))))))))
-
-  pub slotting_end : (not r.large && ltb b (length keys)) ≡ false
+  pub slotting_end : length keys ≤ b
       → WindowSettled most mode (slots_of keys (parts_of fs es (edits tv tt td)) (parts_of ofs oes (edits xv xt xd)) (segments 0 mends moments)) n r marks₀ marks fk₀ fv₀ ft₀ fd₀ fk fv ft fd
   unfolding slots_of
   slotting_end t = window_end m.left
-      (λ e. (let h : length keys ≤ b = ltb-false b (length keys) (goes_now r.large (ltb b (length keys)) e ∙ t) in
-      ap (λ z. slots_of z (parts_of (drop b fs) (drop b es) (edits tv tt td)) (parts_of (drop b ofs) (drop b oes) (edits xv xt xd)) (segments g (drop b mends) moments)) (drop_of_length-le keys {i = b} h)))
+      (ap (λ z. slots_of z (parts_of (drop b fs) (drop b es) (edits tv tt td)) (parts_of (drop b ofs) (drop b oes) (edits xv xt xd)) (segments g (drop b mends) moments)) (drop_of_length-le keys {i = b} t))
 
-  module _ (t : (not r.large && ltb b (length keys)) ≡ true) where
+  module _ (t : b < length keys) where
     abbrev f : ℕ
     f = get_or fs b 0
 
@@ -186,21 +184,8 @@ module _ {most mode : ℕ} {keys moments mends fs es tv tt : List ℕ} {td : Lis
     abbrev h : ℕ
     h = get_or mends b 0
 
-    pub in_keys_lem : b < length keys
-    in_keys_lem = ltb-true b (length keys) (and_r (not r.large) (ltb b (length keys)) t)
-
-    open_yet : r.large ≡ false
-    open_yet = not-true r.large (and_l (not r.large) (ltb b (length keys)) t)
-
-    pub slotting_fits : b + 1 < 2 ^ 64
-    slotting_fits = let p : b < length keys = in_keys_lem in let q : length keys ≤ 64 = m.asks.few in omega arith
-
-    pub slotting_less : length keys - (b + 1) < length keys - b
-    slotting_less = let p : b < length keys = in_keys_lem in omega arith
-
     pub slot_reads : (b < length mends) × ((b < length fs) × ((b < length es) × ((b < length ofs) × (b < length oes))))
     slot_reads =
-        let p : b < length keys = in_keys_lem in
         let qm : length mends ≡ length keys = m.asks.same_m in
         let qf : length fs ≡ length keys = m.asks.same_f in
         let qe : length es ≡ length keys = m.asks.same_e in
@@ -238,19 +223,13 @@ module _ {most mode : ℕ} {keys moments mends fs es tv tt : List ℕ} {td : Lis
     slot_moments = (when.0, (when.1.0, when.1.1.0))
 
     -- as places of columns whose elements have 8 bytes
-    pub slot_places : (b * 8 < 2 ^ 64) × ((g * 8 < 2 ^ 64) × ((f * 8 < 2 ^ 64) × (of * 8 < 2 ^ 64)))
+    pub slot_places : (g * 8 < 2 ^ 64) × ((f * 8 < 2 ^ 64) × (of * 8 < 2 ^ 64))
     slot_places =
-        let p : b < length keys = in_keys_lem in
-        let q : length keys ≤ 64 = m.asks.few in
-        let i : g ≤ b * most_moments = m.near in
-        let k : f ≤ e = slot_input.0 in
-        let l : e ≤ length tv = slot_input.1.0 in
-        let s : length tv ≤ most + most = m.asks.short in
-        let k' : of ≤ oe = slot_output.0 in
-        let l' : oe ≤ length xv = slot_output.1.0 in
-        let s' : length xv ≤ most = m.asks.out_few in
-        let w : most ≤ most_records = m.lent.room_few in
-        (omega arith, (omega arith, (omega arith, omega arith)))
+        let k = slot_input in
+        let k' = slot_output in (
+          omega (arith, m.asks.few, m.near),
+          (omega (arith, k.0, k.1.0, m.asks.short, m.lent.room_few), omega (arith, k'.0, k'.1.0, m.asks.out_few, m.lent.room_few)),
+        )
 
     pub slot_laid : (length (part f e tt) ≡ length (part f e tv)) × ((length (part f e td) ≡ length (part f e tv)) × ((length (part f e tv) ≤ most + most) × Orderly 8192 (edits (part f e tv) (part f e tt) (part f e td))))
     slot_laid =
@@ -272,25 +251,25 @@ module _ {most mode : ℕ} {keys moments mends fs es tv tt : List ℕ} {td : Lis
         let s : length xv ≤ most = m.asks.out_few in
         (q ∙ sym p, (u ∙ sym p, (omega arith, subst (Orderly most_records) (sym (part-edits of oe xv xt xd)) there.1.1.1.0)))
 
-    pub slot_lent : LentRounds most uv ut ud iv id ov od cv cd marks fk fv ft fd r.fixes
-    slot_lent = lent_with r.fixes m.lent (m.left.fits open_yet)
+    pub slot_lent : LentRounds most uv ut ud iv id ov od cv cd marks fk fv ft fd r
+    slot_lent = lent_with r m.lent m.left.fits
 
     abbrev now : Slot
     now = record { key = get_or keys b 0; input = part f e (edits tv tt td); output = part of oe (edits xv xt xd); moments = part g h moments }
 
     split : slots_from keys moments mends fs es (edits tv tt td) ofs oes (edits xv xt xd) b g ≡ now ∷ slots_from keys moments mends fs es (edits tv tt td) ofs oes (edits xv xt xd) (b + 1) h
     unfolding slots_of
-    split = λ z. slots_of (drop_more keys b 0 in_keys_lem z) (parts_next fs es (edits tv tt td) b slot_reads.1.0 slot_reads.1.1.0 z) (parts_next ofs oes (edits xv xt xd) b slot_reads.1.1.1.0 slot_reads.1.1.1.1 z) (segments_next g mends moments b slot_reads.0 z)
+    split = λ z. slots_of (drop_more keys b 0 t z) (parts_next fs es (edits tv tt td) b slot_reads.1.0 slot_reads.1.1.0 z) (parts_next ofs oes (edits xv xt xd) b slot_reads.1.1.1.0 slot_reads.1.1.1.1 z) (segments_next g mends moments b slot_reads.0 z)
 
     -- the slot's output may be given in another way
-    pub slotting_more : {uv' ut' : List ℕ} {ud' : List ℤ} {iv' : List ℕ} {id' : List ℤ} {ov' : List ℕ} {od' : List ℤ} {cv' : List ℕ} {cd' : List ℤ} {marks' fk' fv' ft' : List ℕ} {fd' : List ℤ} {q : Settled} (output : List Edit) → output ≡ edits (part of oe xv) (part of oe xt) (part of oe xd)
-        → KeySettled most mode (get_or keys b 0) (edits (part f e tv) (part f e tt) (part f e td)) output (part g h moments) r.fixes q marks marks' fk fv ft fd fk' fv' ft' fd'
+    pub slotting_more : {uv' ut' : List ℕ} {ud' : List ℤ} {iv' : List ℕ} {id' : List ℤ} {ov' : List ℕ} {od' : List ℤ} {cv' : List ℕ} {cd' : List ℤ} {marks' fk' fv' ft' : List ℕ} {fd' : List ℤ} {q : ℕ} (output : List Edit) → output ≡ edits (part of oe xv) (part of oe xt) (part of oe xd)
+        → KeySettled most mode (get_or keys b 0) (edits (part f e tv) (part f e tt) (part f e td)) output (part g h moments) r q marks marks' fk fv ft fd fk' fv' ft' fd'
         → LentRounds most uv' ut' ud' iv' id' ov' od' cv' cd' marks' fk' fv' ft' fd' 0 → Slotting most mode keys moments mends fs es tv tt td ofs oes xv xt xd n uv₀ ut₀ ud₀ iv₀ id₀ ov₀ od₀ cv₀ cd₀ marks₀ fk₀ fv₀ ft₀ fd₀ uv' ut' ud' iv' id' ov' od' cv' cd' marks' fk' fv' ft' fd' (b + 1) h q
     slotting_more {marks' = marks'} {fk'} {fv'} {ft'} {fd'} {q} output o d l = record {
       asks = m.asks;
       lent₀ = m.lent₀;
       lent = l;
-      bn = (let p : b < length keys = in_keys_lem in omega arith);
+      bn = omega arith;
       apart = apart_past (omega arith) here.1.1.1.1;
       out_apart = apart_past (omega arith) there.1.1.1.1;
       cut = when.1.1.1;
@@ -298,13 +277,21 @@ module _ {most mode : ℕ} {keys moments mends fs es tv tt : List ℕ} {td : Lis
           let k : length (part g h moments) ≤ most_moments = when.1.1.0 in
           let i : g ≤ b * most_moments = m.near in
           omega arith);
-      left = window_more now_left (subst (λ (x : List Edit). KeySettled most mode (get_or keys b 0) (part f e (edits tv tt td)) x (part g h moments) r.fixes q marks marks' fk fv ft fd fk' fv' ft' fd') (o ∙ part-edits of oe xv xt xd)
-          (subst (λ (x : List Edit). KeySettled most mode (get_or keys b 0) x output (part g h moments) r.fixes q marks marks' fk fv ft fd fk' fv' ft' fd') (part-edits f e tv tt td) d));
+      left = window_more now_left (subst (λ (x : List Edit). KeySettled most mode (get_or keys b 0) (part f e (edits tv tt td)) x (part g h moments) r q marks marks' fk fv ft fd fk' fv' ft' fd') (o ∙ part-edits of oe xv xt xd)
+          (subst (λ (x : List Edit). KeySettled most mode (get_or keys b 0) x output (part g h moments) r q marks marks' fk fv ft fd fk' fv' ft' fd') (part-edits f e tv tt td) d));
     }
       where
         all_slots : List Slot
         all_slots = slots_from keys moments mends fs es (edits tv tt td) ofs oes (edits xv xt xd) 0 0
 
-        now_left : WindowLeft most mode all_slots (now ∷ slots_from keys moments mends fs es (edits tv tt td) ofs oes (edits xv xt xd) (b + 1) h) n r.fixes false marks₀ marks fk₀ fv₀ ft₀ fd₀ fk fv ft fd
-        now_left = subst (λ (x : List Slot). WindowLeft most mode all_slots x n r.fixes false marks₀ marks fk₀ fv₀ ft₀ fd₀ fk fv ft fd) split
-            (subst (λ (x : Bool). WindowLeft most mode all_slots (slots_from keys moments mends fs es (edits tv tt td) ofs oes (edits xv xt xd) b g) n r.fixes x marks₀ marks fk₀ fv₀ ft₀ fd₀ fk fv ft fd) open_yet m.left)
+        now_left : WindowLeft most mode all_slots (now ∷ slots_from keys moments mends fs es (edits tv tt td) ofs oes (edits xv xt xd) (b + 1) h) n r marks₀ marks fk₀ fv₀ ft₀ fd₀ fk fv ft fd
+        now_left = subst (λ (x : List Slot). WindowLeft most mode all_slots x n r marks₀ marks fk₀ fv₀ ft₀ fd₀ fk fv ft fd) split m.left
+
+    pub slotting_over : (output : List Edit) → output ≡ edits (part of oe xv) (part of oe xt) (part of oe xd)
+        → KeyOver most mode (get_or keys b 0) (edits (part f e tv) (part f e tt) (part f e td)) output (part g h moments) r
+        → WindowOver most mode (slots_of keys (parts_of fs es (edits tv tt td)) (parts_of ofs oes (edits xv xt xd)) (segments 0 mends moments)) n
+    slotting_over output o d =
+        let i = part-edits f e tv tt td in
+        window_over {s = now} (subst (λ (x : List Slot). WindowLeft most mode (slots_from keys moments mends fs es (edits tv tt td) ofs oes (edits xv xt xd) 0 0) x n r marks₀ marks fk₀ fv₀ ft₀ fd₀ fk fv ft fd) split m.left)
+        (subst (λ (x : List Edit). KeyOver most mode (get_or keys b 0) (part f e (edits tv tt td)) x (part g h moments) r) (o ∙ part-edits of oe xv xt xd)
+        (subst (λ (x : List Edit). KeyOver most mode (get_or keys b 0) x output (part g h moments) r) i d))

@@ -7,17 +7,13 @@ mod ranges;
 
 pub use moment::settle_moment;
 
-// How many corrections there are, and whether they became too large, in which case the rest means nothing.
+// Some correction is out of range, or there are more than there is room for.
 #[derive(Clone, Copy)]
-pub struct Settled {
-    pub fixes: usize,
-    pub large: bool,
-}
+pub struct TooLarge;
 
-// The same, and how many entries the correction of one round has.
+// How many entries the correction of one round has, and how many corrections there are with it.
 #[derive(Clone, Copy)]
 pub struct Fixed {
     pub count: usize,
     pub fixes: usize,
-    pub large: bool,
 }

@@ -1,12 +1,12 @@
 // A key's round.
-ghost use Rattle.std.specs.Prelude.{length};
+ghost use Rattle.std.specs.Prelude.{length, MatchResult};
 ghost use Rattle.rules.specs.Backends.{correction};
 ghost use Rattle.backends.specs.Columns.{entries};
-ghost use Rattle.fixing.specs.Settle.{Fixes, FixedAt};
+ghost use Rattle.fixing.specs.Settle.{Fixes, FixedAt, OverAt};
 
-use crate::Fixed;
 use crate::appends::append_fixes;
 use crate::ranges::is_too_large;
+use crate::{Fixed, TooLarge};
 use backends::correct;
 use times::{KeyHash, PackedTime};
 
@@ -27,22 +27,14 @@ pub fn settle_moment(
     ft: &mut [u64],
     fd: &mut [i64],
     fixes: usize,
-) -> Fixed
+) -> Result<Fixed, TooLarge>
     requires { Fixes (length fk.old) iv.now id.now ov.now od.now cv.old cd.old fk.old fv.old ft.old fd.old fixes }
-    ensures { FixedAt (length fk.old) key.0 t.0 (correction mode (entries iv.now id.now) (entries ov.now od.now)) cv.old cd.old fixes result cv.new cd.new fk.old fv.old ft.old fd.old fk.new fv.new ft.new fd.new }
+    ensures { MatchResult result (λ f. FixedAt (length fk.old) key.0 t.0 (correction mode (entries iv.now id.now) (entries ov.now od.now)) cv.old cd.old fixes f cv.new cd.new fk.old fv.old ft.old fd.old fk.new fv.new ft.new fd.new) (λ _. OverAt (length fk.old) key.0 t.0 (correction mode (entries iv.now id.now) (entries ov.now od.now)) cv.old cd.old fixes cv.new cd.new) }
 {
-    let k = correct(mode, iv, id, ov, od, cv, cd, 0);
-    if is_too_large(fixes, &cd[0..k], fk.len()) {
-        return Fixed {
-            count: k,
-            fixes,
-            large: true,
-        };
+    let count = correct(mode, iv, id, ov, od, cv, cd, 0);
+    if is_too_large(fixes, &cd[0..count], fk.len()) {
+        return Err(TooLarge);
     }
-    let n = append_fixes(key, t, &cv[0..k], &cd[0..k], fk, fv, ft, fd, fixes);
-    Fixed {
-        count: k,
-        fixes: n,
-        large: false,
-    }
+    let fixes = append_fixes(key, t, &cv[0..count], &cd[0..count], fk, fv, ft, fd, fixes);
+    Ok(Fixed { count, fixes })
 }

@@ -10,8 +10,5 @@ pub fn is_too_large(count: usize, cd: &[i64], most: usize) -> bool
     requires { (count ≤ most) × (most ≤ most_records) }
     ensures { result ≡ (not (every in_range cd.now) || ltb most (count + length cd.now)) }
 {
-    if !are_in_range(cd) {
-        return true;
-    }
-    count + cd.len() > most
+    !are_in_range(cd) || count + cd.len() > most
 }

@@ -54,24 +54,18 @@ pub fn correct_fronts(
     ensures { Corrected (length fk.old) mode keys.now (parts_of (take (length keys.now) f.ifrom) (take (length keys.now) f.ito) (edits tv.now tt.now td.now)) (parts_of (take (length keys.now) f.ofrom) (take (length keys.now) f.oto) (edits outvalues.now outtimes.now outdiffs.now)) (segments 0 (take (length keys.now) f.mends) moments.now) f.progress result fk.old fv.old ft.old fd.old fk.new fv.new ft.new fd.new }
 {
     let n = keys.len();
-    let mends = f.mends;
-    let ifrom = f.ifrom;
-    let ito = f.ito;
-    let ofrom = f.ofrom;
-    let oto = f.oto;
-    let p = f.progress;
     correct_window(
         mode,
         keys,
         moments,
-        &mends[0..n],
-        &ifrom[0..n],
-        &ito[0..n],
+        &f.mends[0..n],
+        &f.ifrom[0..n],
+        &f.ito[0..n],
         tv,
         tt,
         td,
-        &ofrom[0..n],
-        &oto[0..n],
+        &f.ofrom[0..n],
+        &f.oto[0..n],
         outvalues,
         outtimes,
         outdiffs,
@@ -88,6 +82,6 @@ pub fn correct_fronts(
         ft,
         fd,
         res,
-        p,
+        f.progress,
     )
 }

@@ -2,42 +2,30 @@
 #![tactic(auto)]
 
 ghost use Rattle.grid.specs.Records.{most_records};
-ghost use Rattle.turns.specs.Runs.{runs};
+ghost use Rattle.requests.specs.Memory.{SameResults};
+ghost use Rattle.concluding.specs.Lending.{runs_of};
 ghost use Rattle.concluding.specs.Answered.{Answering, Answered};
 
 use answers::{Outcome, conclude};
 use keys::changed_keys;
+use requests::{Pending, Request, ResultMemory, Run};
+use results::Scratch;
 use windows::work_windows;
 
 // Finds the changed keys, works their windows, and writes the answer. The columns are long enough for every call, and local here; after the windows some
 // of them are scratch once more.
 pub fn answer_fully(
-    mode: u64,
-    width: usize,
-    lower: &[u64],
-    upper: &[u64],
-    held: &[u64],
-    newkeys: &[u64],
-    newtimes: &[u64],
-    pendingkeys: &[u64],
-    pendingtimes: &[u64],
-    tk: &[u64],
-    tv: &[u64],
-    tt: &[u64],
-    td: &[i64],
-    outkeys: &[u64],
-    outvalues: &[u64],
-    outtimes: &[u64],
-    outdiffs: &[i64],
+    q: &Request<'_>,
+    input: &Run<'_>,
     moments: &mut [u64],
-    res: &mut [u64],
-    rd: &mut [i64],
+    results: &mut ResultMemory<'_>,
 ) -> Outcome
-    requires { Answering most_records (runs upper.now newkeys.now newtimes.now pendingkeys.now pendingtimes.now tk.now tv.now tt.now td.now outkeys.now outvalues.now outtimes.now outdiffs.now) width lower.now held.now moments.old res.old rd.old }
-    ensures { Answered (runs upper.now newkeys.now newtimes.now pendingkeys.now pendingtimes.now tk.now tv.now tt.now td.now outkeys.now outvalues.now outtimes.now outdiffs.now) mode width lower.now held.now result res.old res.new rd.old rd.new }
+    requires { Answering most_records (runs_of q.now input.now) q.now.width q.now.frontiers.lower.now q.now.frontiers.held.now moments.old results.old.numbers.now results.old.diffs.now }
+    ensures answered { Answered (runs_of q.now input.now) q.now.mode q.now.width q.now.frontiers.lower.now q.now.frontiers.held.now result results.old.numbers.now results.new.numbers.now results.old.diffs.now results.new.diffs.now }
+    ensures same { SameResults results.old results.new }
 {
     let mut keys = [0u64; 8192];
-    let n = changed_keys(newkeys, pendingkeys, &mut keys);
+    let n = changed_keys(q.new.keys, q.pending.keys, &mut keys);
     let mut uv = [0u64; 8192];
     let mut ut = [0u64; 8192];
     let mut ud = [0i64; 8192];
@@ -57,22 +45,22 @@ pub fn answer_fully(
     let mut ft = [0u64; 4096];
     let mut fd = [0i64; 4096];
     let c = work_windows(
-        mode,
-        width,
-        upper,
-        &keys[0..n],
-        newkeys,
-        newtimes,
-        pendingkeys,
-        pendingtimes,
-        tk,
-        tv,
-        tt,
-        td,
-        outkeys,
-        outvalues,
-        outtimes,
-        outdiffs,
+        q.mode,
+        q.width as usize,
+        q.frontiers.upper,
+        &keys[..n],
+        q.new.keys,
+        q.new.times,
+        q.pending.keys,
+        q.pending.times,
+        input.keys,
+        input.values,
+        input.times,
+        input.diffs,
+        q.out.keys,
+        q.out.values,
+        q.out.times,
+        q.out.diffs,
         moments,
         &mut uv,
         &mut ut,
@@ -92,9 +80,26 @@ pub fn answer_fully(
         &mut fv,
         &mut ft,
         &mut fd,
-        res,
+        results.numbers,
     );
     conclude(
-        lower, upper, held, &fk, &fv, &ft, &fd, &nk, &nt, c, &mut iv, &mut ov, &mut wv, res, rd,
+        &q.frontiers,
+        &Run {
+            keys: &fk,
+            values: &fv,
+            times: &ft,
+            diffs: &fd,
+        },
+        &Pending {
+            keys: &nk,
+            times: &nt,
+        },
+        c,
+        Scratch {
+            tiles: &mut iv,
+            places: &mut ov,
+            work: &mut wv,
+        },
+        results,
     )
 }

@@ -11,7 +11,7 @@ use Rattle.rules.specs.Histories.{Edit, time_of, value_of}
 use Rattle.edits.specs.Edits as timed
 use Rattle.edits.proofs.Edits.{times-edits}
 use Rattle.moments.specs.Present.{edits}
-use Rattle.moments.proofs.Columns.{edits-append, edits_of_lem, take-edits}
+use Rattle.moments.proofs.Columns.{edits-append, edits_of_columns, take-edits}
 use Rattle.rounds.specs.Merges.{Rows}
 
 pub edits_both : (ts vs : List ℕ) (ds : List ℤ) → timed.edits ts vs ds ≡ edits vs ts ds
@@ -31,4 +31,4 @@ rows_front {yv₀} {yt₀} {yd₀} {at} {new} {yv} {yt} {yd} {r} a b w =
     take-edits r yv yt yd
     ∙ (λ z. edits (w.values.front z) (w.times.front z) (w.diffs.front z))
     ∙ edits-append (take at yv₀) (take at yt₀) (take at yd₀) (map value_of new) (map time_of new) (map (λ (e : Edit). e.1) new) (simp (length-take, a)) (simp (length-take, b))
-    ∙ (λ z. sym (take-edits at yv₀ yt₀ yd₀) z ++ edits_of_lem new z)
+    ∙ (λ z. sym (take-edits at yv₀ yt₀ yd₀) z ++ edits_of_columns new z)

@@ -1,8 +1,8 @@
 -- The meets of moments, from the last to the first.
 --
--- past_none: there is no moment from the i-th on. onto_more, onto_last: the meet of the moments from the i-th on, where that of those after it is known,
+-- onto_more, onto_last: the meet of the moments from the i-th on, where that of those after it is known,
 -- and where there is none after it
--- Backing: the meets from the i-th on are taken. backing_start, backing_more, backing_end: the loop keeps that. backing_ahead, here_far: what a turn asks
+-- Backing: the meets from the i-th on are taken. backing_start, backing_more, backing_end: the loop keeps that. backing_ahead: what a turn asks
 -- meets_at: where the meet of the moments from the j-th on stands
 use Prim.Native.Nat.{ℕ, zero, suc, ◌+◌, ◌-◌, ◌<◌, ◌≤◌}
 use native.Mathlib.Omega.{arith}
@@ -15,7 +15,7 @@ use Rattle.grid.proofs.Loops.{drop_more}
 use Rattle.backends.specs.Segments.{part}
 use Rattle.gather.specs.Meets.{meet_of, meets_of}
 
-pub past_none : (i : ℕ) (l : List ℕ) → length l ≤ i → 0 ≡ meet_of (drop i l)
+past_none : (i : ℕ) (l : List ℕ) → length l ≤ i → 0 ≡ meet_of (drop i l)
 unfolding meet_of
 past_none i l h = ap meet_of (sym (drop_of_length-le l {i = i} h))
 
@@ -60,7 +60,7 @@ module _ {s far₀ far : List ℕ} {i next : ℕ} (m : Backing s far₀ far i ne
     pub backing_ahead : next ≡ meet_of (drop (i - 1 + 1) s)
     backing_ahead = let n : i ≡ i - 1 + 1 = omega arith in m.ahead ∙ ap (λ z. meet_of (drop z s)) n
 
-    pub here_far : i - 1 < length far
+    here_far : i - 1 < length far
     here_far = let a : length far ≡ length far₀ = m.same in let b : length s ≤ length far₀ = m.room in let c : i ≤ length s = m.till in omega arith
 
     pub backing_more : {x : ℕ} → x ≡ meet_of (drop (i - 1) s) → Backing s far₀ (set far (i - 1) x) (i - 1) x

@@ -9,26 +9,17 @@ use crate::Held;
 use advances::advance_edits;
 use histories::end_through;
 use rounds::append_edits;
-use times::{Meet, PackedTime};
+use times::PackedTime;
 
 // Copies the edits from a to e of the columns to their places from n on, which are before a.
 fn move_back(a: usize, e: usize, n: usize, xv: &mut [u64], xt: &mut [u64], xd: &mut [i64]) -> usize
     requires { Moves a e n xv.old xt.old xd.old }
     ensures { Moved a e n (edits xv.old xt.old xd.old) (edits xv.new xt.new xd.new) result }
 {
-    let mut i = a;
-    let mut k = n;
-    while i < e {
-        let v = xv[i];
-        let t = xt[i];
-        let d = xd[i];
-        xv[k] = v;
-        xt[k] = t;
-        xd[k] = d;
-        i += 1;
-        k += 1;
-    }
-    k
+    xv.copy_within(a..e, n);
+    xt.copy_within(a..e, n);
+    xd.copy_within(a..e, n);
+    n + (e - a)
 }
 
 // In one and the same columns n edits are held, and those from a to e are ahead, by time. Those up to t join what is held, which is advanced by m.
@@ -51,17 +42,7 @@ pub fn gather_within(
 {
     let to = end_through(&xt[0..e], a, t);
     let c = move_back(a, to, n, xv, xt, xd);
-    let k = advance_edits(
-        xt,
-        xv,
-        xd,
-        c,
-        Meet::Present(m),
-        places,
-        firsts,
-        seconds,
-        sums,
-    );
+    let k = advance_edits(xt, xv, xd, c, Some(m), places, firsts, seconds, sums);
     Held { count: k, at: to }
 }
 
@@ -88,17 +69,7 @@ pub fn gather_from(
 {
     let to = end_through(st, a, t);
     let c = append_edits(&sv[a..to], &st[a..to], &sd[a..to], uv, ut, ud, n);
-    let k = advance_edits(
-        ut,
-        uv,
-        ud,
-        c,
-        Meet::Present(m),
-        places,
-        firsts,
-        seconds,
-        sums,
-    );
+    let k = advance_edits(ut, uv, ud, c, Some(m), places, firsts, seconds, sums);
     Held { count: k, at: to }
 }
 
@@ -115,15 +86,9 @@ pub fn append_dated(
     requires { Dates cv.now cd.now uv.old ut.old ud.old at }
     ensures { Rows uv.old ut.old ud.old at (dated t.0 (entries cv.now cd.now)) uv.new ut.new ud.new result }
 {
-    let mut i = 0;
-    let mut k = at;
-    while i < cv.len() {
-        uv[k] = cv[i];
-        ut[k] = t.0;
-        let d = cd[i];
-        ud[k] = d;
-        i += 1;
-        k += 1;
-    }
-    k
+    let end = at + cv.len();
+    uv[at..end].copy_from_slice(cv);
+    ut[at..end].fill(t.0);
+    ud[at..end].copy_from_slice(cd);
+    end
 }

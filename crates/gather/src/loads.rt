@@ -5,7 +5,7 @@ ghost use Rattle.gather.specs.Loads.{LoadsKey, LoadedKey};
 use crate::Loaded;
 use crate::meets::meets_back;
 use edits::load_edits;
-use times::{Meet, PackedTime};
+use times::PackedTime;
 
 // Takes the meets of the key's moments, and loads its input and its output, joined with the meet of all of them.
 pub fn load_key(
@@ -31,19 +31,9 @@ pub fn load_key(
 {
     meets_back(moments, far);
     let m = PackedTime(far[0]);
-    let input = load_edits(
-        Meet::Present(m),
-        times,
-        values,
-        diffs,
-        joined,
-        places,
-        xt,
-        xv,
-        xd,
-    );
+    let input = load_edits(Some(m), times, values, diffs, joined, places, xt, xv, xd);
     let output = load_edits(
-        Meet::Present(m),
+        Some(m),
         outtimes,
         outvalues,
         outdiffs,

@@ -13,3 +13,4 @@ pub mod Products
 pub mod Consolidate
 pub mod Ascending
 pub mod Sizes
+pub mod Chains

@@ -12,16 +12,15 @@
 --
 -- A recursive call is bound by `let`: arguments are computed before a call, and a `let` waits.
 use Rattle.std.specs.Prelude.{ℕ, ◌-◌, Bool, true, false, cond, ◌&&◌, ◌||◌, List, [], ◌∷◌, ◌++◌, eqb, length, replicate}
+use Rattle.std.specs.List.{list_any, list_all}
 use Rattle.std.proofs.Math.Option.{Option, none, some}
 
 module _ {A : Type 0} where
   abbrev pub any : (A → Bool) → List A → Bool
-  any p [] = false
-  any p (x ∷ xs) = p x || any p xs
+  any p xs = list_any p xs
 
   abbrev pub every : (A → Bool) → List A → Bool
-  every p [] = true
-  every p (x ∷ xs) = p x && every p xs
+  every p xs = list_all p xs
 
   abbrev pub keep : (A → Bool) → List A → List A
   keep p [] = []

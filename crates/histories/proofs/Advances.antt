@@ -1,12 +1,11 @@
 -- Advances of a buffer: joined, sorted, equals removed.
 --
 -- puts_ascending: a strictly ascending list is its own set
--- advanced_ascending, advanced_sorted: all of a column was advanced, where the joined times ascend and where they do not
+-- advanced_ascending: all of a column was advanced, where the joined times ascend
 -- advances_some, advances_none: the first `count` entries were advanced by a time; there was none
-use Prim.Native.Nat.{ℕ, ◌+◌, ◌-◌, ◌≤◌}
-use native.Mathlib.Nat.{sub-zero}
+use Prim.Native.Nat.{ℕ, ◌-◌, ◌≤◌}
 use native.Mathlib.Omega.{arith}
-use mathlib.Core.Bool.{true, false}
+use mathlib.Core.Bool.{true}
 use mathlib.Core.List.{List, [], ◌∷◌, ◌++◌, map, append_assoc, append-nil}
 use mathlib.Core.Option.{Option, none, some}
 use mathlib.Core.Path.{◌≡◌, refl, sym, ◌∙◌, ap}
@@ -18,7 +17,6 @@ use Rattle.grid.specs.Times.{join, put, puts}
 use Rattle.grid.proofs.Tests.{by-test, and_l}
 use Rattle.grid.proofs.Ascending.{ascending_rest}
 use Rattle.grid.proofs.Sort.{length_sort}
-use Rattle.distinct.specs.Sets.{Removed}
 use Rattle.grid.proofs.Slices.{laid_fits}
 use Rattle.rules.specs.Histories.{advance_times}
 use Rattle.histories.specs.Advances.{work_after, Advanced, Advances}
@@ -46,17 +44,6 @@ module _ (f : ℕ → ℕ) (s w : List ℕ) {s₁ : List ℕ} (e : s₁ ≡ map 
         work = rw a;
       }
 
-  pub advanced_sorted : {s' w' : List ℕ} {r : ℕ} → false ≡ ascending ltb s₁ → length s' ≡ length s₁ → Removed (puts s₁ []) (length s₁) s' r × (w' ≡ sort leb s₁) → Advanced f s w s' w' r
-  advanced_sorted {s'} {w'} {r} t n h =
-      let a : ascending ltb (map f s) ≡ false = ap (ascending ltb) (sym e) ∙ sym t in
-      let l : length s₁ ≡ length s = ap length e ∙ length-map s f in
-      let m : length (padded 0 (length s₁) (puts s₁ [])) ≡ length s₁ = rw (← h.0.exit_is) n in
-      record {
-        within = (let k : length (puts s₁ []) + (length s₁ - length (puts s₁ [])) ≡ length s₁ = rw (length-append, length-replicate) at m in omega (arith, h.0.count_is));
-        removed = record { count_is = h.0.count_is ∙ ap (λ l. length (puts l [])) e; exit_is = h.0.exit_is ∙ (λ i. padded 0 (l i) (puts (e i) [])) };
-        work = rw a (h.1 ∙ ap (sort leb) e);
-      }
-
 -- ---- the front of a column
 -- a list and zeros, up to `count`, and then what was there
 module _ (xs col : List ℕ) {col' : List ℕ} {count r : ℕ} (h : r ≤ count) (n : r ≡ length xs) (e : col' ≡ padded 0 count xs ++ drop count col) where
@@ -80,23 +67,22 @@ module _ {o : Option ℕ} (count : ℕ) (col work : List ℕ) (h : count ≤ len
         work_holds = rw e;
       }
 
-  pub advances_some : {m : ℕ} {x y : List ℕ} {r : ℕ} → o ≡ some m → Advanced (join m) (take (count - 0) col) (take (count - 0) work) x y r → Advances o count col work (x ++ drop (count - 0) col) (y ++ drop (count - 0) work) r
+  pub advances_some : {m : ℕ} {x y : List ℕ} {r : ℕ} → o ≡ some m → Advanced (join m) (take count col) (take count work) x y r → Advances o count col work (x ++ drop count col) (y ++ drop count work) r
   unfolding advance_times work_after
-  advances_some {m} {x} {y} {r} e a' =
-      let a : Advanced (join m) (take count col) (take count work) x y r = rw sub-zero at a' in
+  advances_some {m} {x} {y} {r} e a =
       let n : length (take count col) ≡ count = length-take-le count col h in
       let b : r ≤ count = rw (← n) a.within in
       let xs = map (join m) (take count col) in
       let l : length (sort leb xs) ≡ count = length_sort leb xs ∙ length-map (take count col) (join m) ∙ n in
       let x' : x ≡ padded 0 count (puts xs []) = a.removed.exit_is ∙ ap (λ c. padded 0 c (puts xs [])) n in
-      let t : x ++ drop (count - 0) col ≡ padded 0 count (puts xs []) ++ drop count col = rw (sub-zero, x') in
+      let t : x ++ drop count col ≡ padded 0 count (puts xs []) ++ drop count col = rw x' in
       record {
         within = b;
         buffer = rw e (padded_front (puts xs []) col b a.removed.count_is t);
         holds = rw e t;
         same_ahead = padded_back (puts xs []) col b a.removed.count_is t;
         work_holds =
-            rw (e, sub-zero)
+            rw e
             (by-test (ascending ltb xs)
             (λ q. let w : y ≡ take count work = rw q at a.work in rw (q, w) (take-append-drop count work))
             (λ q. let w : y ≡ sort leb xs = rw q at a.work in rw (q, w, laid_fits (sort leb xs) work (omega arith), l)));

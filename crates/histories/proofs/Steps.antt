@@ -1,9 +1,7 @@
 -- A step of a history, for any test: what passes at the front of what is ahead, and what its move to the buffer leaves.
 --
 -- ends_more, ends_here, ends_over: a loop looks for where the front ends; the entry at i passes, does not pass, all is read
--- Sliding s₀ count at to s k i: a loop has moved the entries from `at` up to i down to `count`. sliding_start, sliding_more, sliding_end: the loop keeps that
--- slid_none: nothing moves where the buffer reaches what is ahead
--- slid: a column whose entries from `at` up to `to` were moved down to `count`
+-- slid: a column whose entries from `at` up to `to` were moved down to `count`. slid_copied: so `copy_within` leaves it
 -- front_take, past_drop: the front of a list and what follows it, by the front's length
 -- steps_within, steps: what passes, moved to the buffer, is a step. steps_one: so is the next entry alone
 use Prim.Native.Nat.{ℕ, suc, ◌+◌, ◌-◌, ◌≤◌, ◌<◌}
@@ -12,19 +10,21 @@ use mathlib.Core.Bool.{Bool, true, false, not}
 use mathlib.Core.List.{List, [], ◌∷◌, ◌++◌}
 use mathlib.Core.Path.{◌≡◌, refl, sym, ◌∙◌, ap, ap₂}
 use lib.Dec.{ltb}
-use lib.ListN.{length, take, drop, get_or, set, length-append, length-drop, length-set, drop_of_length-le, take-append-drop}
-use lib.Seq.{slice, drop-drop, drop_at, length-take-le, take-add, take-take, length-slice}
+use lib.ListN.{length, take, drop, get_or, length-append, length-drop, drop_of_length-le}
+use lib.Seq.{slice, drop-drop, drop_at, length-take-le, take-add, length-slice}
 use borrow.Author.Tests.{ltb-true, ltb-false, lt-ltb, le-ltb}
+use Rattle.std.specs.List.{copy_within}
 use Rattle.grid.specs.Lists.{front, past, is_empty}
 use Rattle.grid.proofs.Tests.{by-test}
 use Rattle.grid.proofs.Loops.{drop_more}
 use Rattle.grid.specs.Slices.{laid, Laid}
-use Rattle.grid.proofs.Slices.{Laying, laying_more, laying_next, laying_end, laid_fits, laid_front, laid_back, drop-later}
+use Rattle.grid.proofs.Slices.{laid_fits, laid_front, laid_back, drop-later}
 use Rattle.grid.proofs.Operations.{front_fits}
 use Rattle.rules.specs.Histories.{Edit, stepped, moved}
 use Rattle.rules.specs.Wave.{step_one}
 use Rattle.histories.specs.Places.{history_of, Placed, Steps, StepsOne}
 use Rattle.histories.specs.declared.Place.{Place}
+use Rattle.histories.specs.declared.Stepped.{Stepped}
 
 -- ---- where the front ends
 module _ {A : Type 0} (p : A → Bool) (l : List A) (i : ℕ) {a : ℕ} where
@@ -48,41 +48,16 @@ module _ {A : Type 0} where
   abbrev pub slid : List A → ℕ → ℕ → ℕ → List A
   slid s count at to = laid (take count s ++ slice at to s) s
 
-  pub record Sliding (s₀ : List A) (count at to : ℕ) (s : List A) (k i : ℕ) : Type 0 where
-    pub behind : k ≤ i
-    pub within : i ≤ to
-    pub fits : to ≤ length s
-    pub laying : Laying s₀ s k (slice i to s₀) (take count s₀ ++ slice at to s₀)
+  slice-take : (l : List A) (at n : ℕ) → at ≤ length l → slice at (at + n) l ≡ take n (drop at l)
+  slice-take l at n h = ap (drop at) (take-add at n l) ∙ drop_at (take at l) (take n (drop at l)) at (length-take-le at l h)
 
-  pub sliding_start : (s : List A) (count at to : ℕ) → count ≤ at → at ≤ to → to ≤ length s → Sliding s count at to s count at
-  sliding_start s count at to h k l = record { behind = h; within = k; fits = l; laying = record { within = omega arith; same = refl; done = refl; ahead = refl } }
-
-  module _ {s₀ : List A} {count at to : ℕ} {s : List A} {k i : ℕ} (w : Sliding s₀ count at to s k i) where
-    pub sliding_more : (d : A) {v : A} → i < to → v ≡ get_or s i d → Sliding s₀ count at to (set s k v) (k + 1) (i + 1)
-    sliding_more d {v} h e =
-        let b : k ≤ i = w.behind in
-        let f : to ≤ length s = w.fits in
-        record {
-          behind = omega arith;
-          within = omega arith;
-          fits = simp length-set f;
-          laying = laying_more w.laying v (omega arith) (rw e (laying_next w.laying i to d b h f));
-        }
-
-    pub sliding_end : to ≤ i → s ≡ slid s₀ count at to
-    sliding_end h =
-        let l : length s ≡ length s₀ = w.laying.same in
-        let f : to ≤ length s = w.fits in
-        (laying_end w.laying (drop_of_length-le (take to s₀) {i = i} (rw (length-take-le to s₀ (omega arith)) h))).holds
-
-  take-slice : (s : List A) (at to : ℕ) → at ≤ to → take at s ++ slice at to s ≡ take to s
-  take-slice s at to h = ap (λ l. l ++ slice at to s) (sym (take-take at to s h)) ∙ take-append-drop at (take to s)
-
-  pub slid_none : (s : List A) {count : ℕ} (at to : ℕ) → count ≤ at → at ≤ count → at ≤ to → to ≤ length s → s ≡ slid s count at to
-  slid_none s {count} at to h k l f =
-      let e : count ≡ at = omega arith in
-      let n : length (take to s) ≡ to = length-take-le to s f in
-      rw (e, take-slice s at to l, laid_fits (take to s) s (omega arith), n) (sym (take-append-drop to s))
+  -- what `copy_within` leaves
+  pub slid_copied : (s : List A) (count at to : ℕ) → count ≤ at → at ≤ to → to ≤ length s → copy_within s at to count ≡ slid s count at to
+  slid_copied s count at to h k l =
+      let n : at + (to - at) ≡ to = omega arith in
+      let t : slice at to s ≡ take (to - at) (drop at s) = ap (λ m. slice at m s) (sym n) ∙ slice-take s at (to - at) (omega arith) in
+      let w : length (take count s ++ slice at to s) ≡ count + (to - at) = length-append (take count s) (slice at to s) ∙ ap₂ ◌+◌ (length-take-le count s (omega arith)) (length-slice at to s l) in
+      rw (laid_fits (take count s ++ slice at to s) s (omega arith), w, t)
 
 -- ---- the front, by its length
 module _ {A : Type 0} (p : A → Bool) where
@@ -101,11 +76,6 @@ module _ {A : Type 0} (p : A → Bool) where
       go : (ys : List A) → ltb 0 (length ys) ≡ not (is_empty ys)
       go [] = refl
       go (y ∷ ys) = lt-ltb 0 (suc (length ys)) (omega arith)
-
--- ---- parts
-module _ {A : Type 0} where
-  slice-take : (l : List A) (at n : ℕ) → at ≤ length l → slice at (at + n) l ≡ take n (drop at l)
-  slice-take l at n h = ap (drop at) (take-add at n l) ∙ drop_at (take at l) (take n (drop at l)) at (length-take-le at l h)
 
 -- ---- a step
 module _ {A : Type 0} (col : List A) (p : Place) {to : ℕ} (w : Placed (length col) p) (f : p.at ≤ to) (g : to ≤ length col) {col' : List A} (s : col' ≡ slid col p.count p.at to) where
@@ -155,10 +125,10 @@ module _ {A : Type 0} (pass : A → Bool) (col : List A) (p : Place) {to : ℕ} 
       (λ t. let h : 0 < length (front pass (drop p.at col)) = ltb-true _ _ t in lt-ltb p.at to (omega arith) ∙ sym t ∙ some_moved pass (drop p.at col))
       (λ t. let h : length (front pass (drop p.at col)) ≤ 0 = ltb-false _ _ t in le-ltb p.at to (omega arith) ∙ sym t ∙ some_moved pass (drop p.at col))
 
-  pub steps : {col' : List A} → col' ≡ slid col p.count p.at to → Steps pass col p col' (record { place = record { count = p.count + (to - p.at); at = to }; moved = ltb p.at to })
+  pub steps : {col' : List A} {r : Stepped} → col' ≡ slid col p.count p.at to → r ≡ record { place = record { count = p.count + (to - p.at); at = to }; moved = ltb p.at to } → Steps pass col p col' r
   unfolding history_of stepped
-  steps {col'} s =
-      let f : p.at ≤ to = steps_within.1.0 in
+  steps {col'} s told = rw told
+      (let f : p.at ≤ to = steps_within.1.0 in
       let g : to ≤ length col = steps_within.1.1 in
       record {
         placed = moves_placed col p w f g s;
@@ -166,7 +136,7 @@ module _ {A : Type 0} (pass : A → Bool) (col : List A) (p : Place) {to : ℕ} 
         told = some_here;
         holds = s ∙ ap (λ xs. laid (take p.count col ++ xs) col) front_slice;
         same_ahead = moves_ahead col p w f g s;
-      }
+      })
 
 -- one entry
 pub steps_one : (col : List Edit) (p : Place) {col' : List Edit} → Placed (length col) p → p.at < length col → col' ≡ slid col p.count p.at (p.at + 1) → StepsOne col p col' (record { count = p.count + 1; at = p.at + 1 })

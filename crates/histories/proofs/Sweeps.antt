@@ -1,35 +1,25 @@
 -- What the loops over one column keep.
 --
--- Mapping f src dst₀ dst i: a loop has written what f makes of the first i entries of src to dst. mapping_start, mapping_more, mapping_end: the loop keeps that
--- Replacing f s₀ s i: the same in place. replacing_start, replacing_more, replacing_end: the loop keeps that
--- Climbs lt s i: up to i the entries ascend. climbs_start, climbs_more, climbs_stops, climbs_end: the loop keeps that
+-- Mapping f src dst₀ dst i: a loop has written what f makes of the first i entries of src to dst. mapping_end: at its end
+-- Replacing f s₀ s i: the same in place
+-- Climbs lt s i: up to i the entries ascend. climbs_more, climbs_stops, climbs_end: the loop keeps that
 use Prim.Native.Nat.{ℕ, suc, ◌+◌, ◌-◌, ◌≤◌, ◌<◌}
 use native.Mathlib.Omega.{arith}
 use mathlib.Core.Bool.{Bool, true, false}
 use mathlib.Core.List.{List, [], ◌∷◌, ◌++◌, map}
 use mathlib.Core.Path.{◌≡◌, refl, sym, ◌∙◌, ap}
-use lib.ListN.{length, take, drop, get_or, set, length-set, length-drop, drop_of_length-le}
+use lib.ListN.{length, take, drop, get_or, length-drop, drop_of_length-le}
 use lib.Seq.{drop-cons}
 use Rattle.grid.specs.Lists.{ascending}
-use Rattle.grid.proofs.Loops.{put_more, put_end, map_more, ahead_set, ahead_get_or}
 use Rattle.grid.specs.Slices.{laid}
-use Rattle.grid.proofs.Slices.{Laying, laying_start, laying_more, laying_end}
+use Rattle.grid.proofs.Slices.{Laying, laying_end}
 
 -- ---- from one column to another
 pub record Mapping {A B : Type 0} (f : A → B) (src : List A) (dst₀ dst : List B) (i : ℕ) : Type 0 where
   pub fits : length src ≤ length dst
   pub laying : Laying dst₀ dst i (map f (drop i src)) (map f src)
 
-module _ {A B : Type 0} (f : A → B) where
-  pub mapping_start : (src : List A) (dst : List B) → length src ≤ length dst → Mapping f src dst dst 0
-  mapping_start src dst h = record { fits = h; laying = laying_start dst (map f src) }
-
 module _ {A B : Type 0} {f : A → B} {src : List A} {dst₀ dst : List B} {i : ℕ} (w : Mapping f src dst₀ dst i) where
-  pub mapping_more : (d : A) {v : B} → i < length src → v ≡ f (get_or src i d) → Mapping f src dst₀ (set dst i v) (i + 1)
-  mapping_more d {v} h e =
-      let b : length src ≤ length dst = w.fits in
-      record { fits = simp length-set b; laying = laying_more w.laying v (omega arith) (map_more f src i d h ∙ ap (λ x. x ∷ map f (drop (i + 1) src)) (sym e)) }
-
   pub mapping_end : length src ≤ i → dst ≡ laid (map f src) dst₀
   mapping_end h = (laying_end w.laying (ap (map f) (drop_of_length-le src h))).holds
 
@@ -39,31 +29,10 @@ pub record Replacing {A : Type 0} (f : A → A) (s₀ s : List A) (i : ℕ) : Ty
   pub ahead : drop i s ≡ drop i s₀
   pub done : take i s ++ map f (drop i s₀) ≡ map f s₀
 
-pub replacing_start : {A : Type 0} (f : A → A) (s : List A) → Replacing f s s 0
-replacing_start f s = record { len = refl; ahead = refl; done = refl }
-
-module _ {A : Type 0} {f : A → A} {s₀ s : List A} {i : ℕ} (w : Replacing f s₀ s i) where
-  pub replacing_more : (d : A) {v : A} → i < length s → v ≡ f (get_or s i d) → Replacing f s₀ (set s i v) (i + 1)
-  replacing_more d {v} h e =
-      let l : length s ≡ length s₀ = w.len in
-      record {
-        len = simp length-set l;
-        ahead = ahead_set s s₀ i i v (omega arith) w.ahead;
-        done = put_more s i v h w.done (map_more f s₀ i d (omega arith) ∙ ap (λ x. x ∷ map f (drop (i + 1) s₀)) (sym (e ∙ ap f (ahead_get_or s s₀ i d w.ahead))));
-      }
-
-  pub replacing_end : length s ≤ i → s ≡ map f s₀
-  replacing_end h =
-      let l : length s ≡ length s₀ = w.len in
-      put_end s i h w.done (ap (map f) (drop_of_length-le s₀ {i = i} (omega arith)))
-
 -- ---- strictly ascending
 pub record Climbs {A : Type 0} (lt : A → A → Bool) (s : List A) (i : ℕ) : Type 0 where
   pub begun : 1 ≤ i
   pub same : ascending lt (drop (i - 1) s) ≡ ascending lt s
-
-pub climbs_start : {A : Type 0} (lt : A → A → Bool) (s : List A) → Climbs lt s 1
-climbs_start lt s = record { begun = omega arith; same = refl }
 
 module _ {A : Type 0} {lt : A → A → Bool} {s : List A} {i : ℕ} (w : Climbs lt s i) where
   two : (d : A) → i < length s → drop (i - 1) s ≡ get_or s (i - 1) d ∷ get_or s i d ∷ drop (suc i) s

@@ -2,6 +2,8 @@
 // and what is ahead are the entries from `at` on.
 #![tactic(auto)]
 
+ghost use Rattle.std.specs.Prelude.{◌≡◌, ◌+◌, ◌-◌, ◌≤◌, ltb};
+
 mod columns;
 mod time_history;
 
@@ -22,4 +24,20 @@ pub struct Place {
 pub struct Stepped {
     pub place: Place,
     pub moved: bool,
+}
+
+impl Place {
+    // The place once what is ahead up to `to` moved into the buffer.
+    pub fn stepped_to(self, to: usize) -> Stepped
+        requires { (self.count ≤ self.at) × (self.at ≤ to) }
+        ensures { result ≡ record { place = record { count = self.count + (to - self.at); at = to }; moved = ltb self.at to } }
+    {
+        Stepped {
+            place: Place {
+                count: self.count + (to - self.at),
+                at: to,
+            },
+            moved: self.at < to,
+        }
+    }
 }

@@ -14,16 +14,16 @@ use crate::columns::{copy_joined, end_of_equal, end_through, is_ascending, join_
 use crate::{Place, Stepped};
 use distinct::sort_distinct;
 use sorting::sort_times;
-use times::{Meet, PackedTime, meet_onto};
+use times::{PackedTime, meet_onto};
 
 // Loads times, each joined with the meet if there is one, in ascending order. The work slice holds the same afterwards.
-pub fn load_times(m: Meet, src: &[u64], times: &mut [u64], work: &mut [u64])
+pub fn load_times(m: Option<PackedTime>, src: &[u64], times: &mut [u64], work: &mut [u64])
     requires { (length src.now ≤ length times.old) × (length src.now ≤ length work.old) }
     ensures { Loads (load_times (optional m) src.now) times.old work.old times.new work.new }
 {
     let n = src.len();
     copy_joined(m, src, times);
-    sort_times(&mut times[0..n], &mut work[0..n]);
+    sort_times(&mut times[..n], &mut work[..n]);
 }
 
 // Writes the meet of each of the first `count` times and all later ones of them.
@@ -31,35 +31,31 @@ pub fn suffix_meets(times: &[u64], count: usize, suffixes: &mut [u64])
     requires { (count ≤ length times.now) × (count ≤ length suffixes.old) }
     ensures { suffixes.new ≡ laid (suffix_meets (take count times.now)) suffixes.old }
 {
-    let mut m = Meet::Absent;
-    let mut i = count;
-    while i > 0 {
-        i -= 1;
+    let mut m = None;
+    for i in (0..count).rev() {
         let t = meet_onto(PackedTime(times[i]), m);
         suffixes[i] = t.0;
-        m = Meet::Present(t);
+        m = Some(t);
     }
 }
 
 // The next time, absent if nothing is ahead.
-pub fn head_of(times: &[u64], at: usize) -> Meet
+pub fn head_of(times: &[u64], at: usize) -> Option<PackedTime>
     ensures { optional result ≡ first_of (drop at times.now) }
 {
-    if at < times.len() {
-        return Meet::Present(PackedTime(times[at]));
-    }
-    Meet::Absent
+    times.get(at).map(|t| PackedTime(*t))
 }
 
 // The meet of all that is ahead, absent if nothing is.
-pub fn meet_ahead(times: &[u64], suffixes: &[u64], at: usize) -> Meet
+pub fn meet_ahead(times: &[u64], suffixes: &[u64], at: usize) -> Option<PackedTime>
     requires { Suffixes times.now suffixes.now at }
     ensures { optional result ≡ meets (drop at times.now) none }
 {
     if at < times.len() {
-        return Meet::Present(PackedTime(suffixes[at]));
+        Some(PackedTime(suffixes[at]))
+    } else {
+        None
     }
-    Meet::Absent
 }
 
 // Steps times while the next equals n.
@@ -69,13 +65,7 @@ pub fn step_while_time_is(times: &mut [u64], p: Place, n: PackedTime) -> Stepped
 {
     let to = end_of_equal(times, p.at, n);
     move_down(times, p.count, p.at, to);
-    Stepped {
-        place: Place {
-            count: p.count + (to - p.at),
-            at: to,
-        },
-        moved: p.at < to,
-    }
+    p.stepped_to(to)
 }
 
 // Steps times while the next is at most n, in ascending order.
@@ -85,13 +75,7 @@ pub fn step_through(times: &mut [u64], p: Place, n: PackedTime) -> Stepped
 {
     let to = end_through(times, p.at, n);
     move_down(times, p.count, p.at, to);
-    Stepped {
-        place: Place {
-            count: p.count + (to - p.at),
-            at: to,
-        },
-        moved: p.at < to,
-    }
+    p.stepped_to(to)
 }
 
 // Joins all times with p, sorts them and removes equals. Where the joined times ascend already, they are left as they are.
@@ -101,18 +85,24 @@ fn advance_by(p: PackedTime, s: &mut [u64], w: &mut [u64]) -> usize
 {
     join_each(p, s);
     if is_ascending(s) {
-        return s.len();
+        s.len()
+    } else {
+        sort_distinct(s, w)
     }
-    sort_distinct(s, w)
 }
 
 // Advances the first `count` times by the meet, if there is one. Returns how many are left.
-pub fn advance_buffer_by(times: &mut [u64], count: usize, m: Meet, work: &mut [u64]) -> usize
+pub fn advance_buffer_by(
+    times: &mut [u64],
+    count: usize,
+    m: Option<PackedTime>,
+    work: &mut [u64],
+) -> usize
     requires { (count ≤ length times.old) × (count ≤ length work.old) }
     ensures { Advances (optional m) count times.old work.old times.new work.new result }
 {
-    if let Meet::Present(p) = m {
-        return advance_by(p, &mut times[0..count], &mut work[0..count]);
+    match m {
+        Some(p) => advance_by(p, &mut times[..count], &mut work[..count]),
+        None => count,
     }
-    count
 }

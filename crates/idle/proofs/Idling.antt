@@ -1,20 +1,23 @@
 -- The calls that do no work: refused, quiet, or nothing changed.
 --
+-- refusal_late, no_refusal: what the test for a refusal says
 -- says_quiet, says_nothing, early_writes: what is said of such a call. idle_done, refusal, idle_refused: and what memory holds
 use Prim.Native.Nat.{ℕ, ◌≤◌, ◌<◌}
 use native.Mathlib.Omega.{arith}
-use mathlib.Core.Bool.{false, ◌&&◌}
+use mathlib.Core.Bool.{true, false, ◌&&◌}
 use mathlib.Core.List.{List}
 use mathlib.Core.Path.{◌≡◌, refl, sym, ◌∙◌, ap}
-use lib.Dec.{leb, eqb}
+use lib.Dec.{leb, ltb, eqb}
 use lib.IntN.{ℤ}
-use borrow.Author.Tests.{eqb-true, ne_eqb, lt-leb}
-use Rattle.grid.proofs.Tests.{by-test}
+use borrow.Author.Tests.{eqb-true, ne_eqb, lt-leb, le-leb, ltb-true, ltb-false}
+use Rattle.grid.proofs.Tests.{by-test, clash, and_l}
 use Rattle.rules.specs.Call.{Request, refused, quiet_answer}
 use Rattle.rules.specs.Memory.{Memory, after}
 use Rattle.rules.proofs.Memory.{memory_untouched, work_cleared, work_diffs_cleared}
 use Rattle.placing.specs.Parts.{emptied, emptied_diffs}
 use Rattle.answers.specs.Tells.{Tells, TellsQuiet}
+use Rattle.requests.specs.Statuses.{number_of}
+use Rattle.requests.specs.declared.status.Status.{Status}
 use Rattle.answers.specs.declared.Outcome.{Outcome}
 use Rattle.idle.specs.Idled.{idle_answer, SaidIdle, Idled}
 
@@ -42,15 +45,16 @@ module _ {s : ℕ} {held ks ts : List ℕ} {r : Outcome} {m : Memory} where
         record { tells = S.says q e p; work_is = w ∙ sym (work_cleared (idle_answer s q) m f); work_diffs_is = v ∙ sym (work_diffs_cleared (idle_answer s q) m f) };
   }
 
-abbrev pub refusal : ℕ → Outcome
+abbrev pub refusal : Status → Outcome
 refusal s = record { status = s; crossings = 0; tiles = 0; fixes = 0; pending = 0; frontier = 0 }
 
-pub idle_refused : {s : ℕ} {held ks ts : List ℕ} {m : Memory} → 10 < s → s ≤ 17 → Idled s held ks ts m (refusal s) m
+pub idle_refused : {s : Status} {held ks ts : List ℕ} {m : Memory} → 10 < number_of s → number_of s ≤ 17 → Idled (number_of s) held ks ts m (refusal s) m
 unfolding idle_answer refused after
 idle_refused {s} {m = m} h k =
-    let e : after (refused s) m ≡ m = memory_untouched (refused s) m (omega arith) k in
+    let n : ℕ = number_of s in
+    let e : after (refused n) m ≡ m = memory_untouched (refused n) m (omega arith) k in
     record {
-      answers = λ q _ _. rw (ne_eqb s 1 (λ z. omega arith))
+      answers = λ q _ _. rw (ne_eqb n 1 (λ z. omega arith))
           (record {
             tells = record {
               status_is = refl;
@@ -65,3 +69,11 @@ idle_refused {s} {m = m} h k =
             work_diffs_is = sym (ap (λ (n : Memory). n.work_diffs) e);
           });
     }
+
+-- what the test for a refusal says
+module _ (n : ℕ) where
+  pub refusal_late : (ltb 10 n && leb n 17) ≡ true → 10 < n
+  refusal_late e = ltb-true 10 n (and_l (ltb 10 n) (leb n 17) e)
+
+  pub no_refusal : (ltb 10 n && leb n 17) ≡ false → n ≤ 17 → n ≤ 10
+  no_refusal e h = by-test (ltb 10 n) (λ t. clash true refl (rw (t, le-leb n 17 h) at e)) (λ t. ltb-false 10 n t)

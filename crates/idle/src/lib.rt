@@ -2,52 +2,47 @@
 #![tactic(auto)]
 
 ghost use Rattle.std.specs.Prelude.{◌≤◌};
-ghost use Rattle.demands.specs.Lending.{memory};
+ghost use Rattle.requests.specs.Memory.{SameResults, SameWork, memory_of};
+ghost use Rattle.requests.specs.Statuses.{number_of};
 ghost use Rattle.idle.specs.Idled.{Idles, SaidIdle, Idled};
 
 use answers::{Outcome, say_nothing, say_quiet};
+use requests::{Pending, ResultMemory, Status, WorkMemory};
 use results::clear_work;
 
 // 1: pending list and held times are the results; 2: "all results empty".
 fn say_idle(
-    status: u64,
+    status: Status,
     held: &[u64],
-    pendingkeys: &[u64],
-    pendingtimes: &[u64],
-    res: &mut [u64],
-    rd: &mut [i64],
+    pending: &Pending<'_>,
+    results: &mut ResultMemory<'_>,
 ) -> Outcome
-    requires status_bound { status ≤ 10 }
-    requires idles { Idles status held.now pendingkeys.now pendingtimes.now res.old rd.old }
-    ensures { SaidIdle status held.now pendingkeys.now pendingtimes.now result res.old res.new rd.old rd.new }
+    requires status_bound { number_of status ≤ 10 }
+    requires idles { Idles (number_of status) held.now pending.now.keys.now pending.now.times.now results.old.numbers.now results.old.diffs.now }
+    ensures said { SaidIdle (number_of status) held.now pending.now.keys.now pending.now.times.now result results.old.numbers.now results.new.numbers.now results.old.diffs.now results.new.diffs.now }
+    ensures same { SameResults results.old results.new }
 {
-    if status == 1 {
-        return say_quiet(held, pendingkeys, pendingtimes, res, rd);
+    if status.number() == 1 {
+        return say_quiet(held, pending, results);
     }
-    say_nothing(status, res, rd)
+    say_nothing(status, results)
 }
 
 // 11 to 17: "untouched". At 1 and 2 work memory is zero afterwards.
 pub fn stay_idle(
-    status: u64,
+    status: Status,
     held: &[u64],
-    pendingkeys: &[u64],
-    pendingtimes: &[u64],
-    res: &mut [u64],
-    rd: &mut [i64],
+    pending: &Pending<'_>,
+    results: &mut ResultMemory<'_>,
     moments: &mut [u64],
-    tk: &mut [u64],
-    tv: &mut [u64],
-    tt: &mut [u64],
-    uv: &mut [u64],
-    ut: &mut [u64],
-    td: &mut [i64],
-    ud: &mut [i64],
+    work: &mut WorkMemory<'_>,
 ) -> Outcome
-    requires { Idles status held.now pendingkeys.now pendingtimes.now res.old rd.old }
-    ensures { Idled status held.now pendingkeys.now pendingtimes.now (memory res.old rd.old moments.old tk.old tv.old tt.old uv.old ut.old td.old ud.old) result (memory res.new rd.new moments.new tk.new tv.new tt.new uv.new ut.new td.new ud.new) }
+    requires { Idles (number_of status) held.now pending.now.keys.now pending.now.times.now results.old.numbers.now results.old.diffs.now }
+    ensures idled { Idled (number_of status) held.now pending.now.keys.now pending.now.times.now (memory_of results.old moments.old work.old) result (memory_of results.new moments.new work.new) }
+    ensures same_results { SameResults results.old results.new }
+    ensures same_work { SameWork work.old work.new }
 {
-    if status > 10 {
+    if status.is_refusal() {
         return Outcome {
             status,
             crossings: 0,
@@ -57,6 +52,6 @@ pub fn stay_idle(
             frontier: 0,
         };
     }
-    clear_work(moments, tk, tv, tt, uv, ut, td, ud);
-    say_idle(status, held, pendingkeys, pendingtimes, res, rd)
+    clear_work(moments, work);
+    say_idle(status, held, pending, results)
 }

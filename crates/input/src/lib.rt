@@ -1,33 +1,20 @@
 // "Input (old and new)": the records of both runs together, in order. Each run ascends already; here they are sorted by halves.
 #![tactic(auto)]
 
-ghost use Rattle.std.specs.Prelude.{◌+◌, ◌≤◌, [], ◌++◌, map, ◌≡◌, length, take};
-ghost use Rattle.slices.specs.Places.{entry, diff_entry};
+ghost use Rattle.std.specs.Prelude.{◌+◌, ◌≤◌, [], ◌++◌, map, ◌≡◌, length, take, get_or};
 ghost use Rattle.arranging.specs.Arranged.{sorted_places};
 ghost use Rattle.input.specs.Formed.{columns, Runs, Fits, Lending, Joined, Ordered, Formed};
 
 use arranging::order_places;
-use slices::{copy, copy_diffs, gather, gather_diffs};
+use slices::{Entry, copy, gather};
 
 // One column after the other, in the front of a third.
-fn append(first: &[u64], second: &[u64], out: &mut [u64])
+fn append<T: Entry>(first: &[T], second: &[T], out: &mut [T])
     requires { length first.now + length second.now ≤ length out.old }
     ensures { take (length first.now + length second.now) out.new ≡ first.now ++ second.now }
 {
-    let n = first.len();
-    let m = out.len();
     copy(first, out);
-    copy(second, &mut out[n..m]);
-}
-
-fn append_diffs(first: &[i64], second: &[i64], out: &mut [i64])
-    requires { length first.now + length second.now ≤ length out.old }
-    ensures { take (length first.now + length second.now) out.new ≡ first.now ++ second.now }
-{
-    let n = first.len();
-    let m = out.len();
-    copy_diffs(first, out);
-    copy_diffs(second, &mut out[n..m]);
+    copy(second, &mut out[first.len()..]);
 }
 
 // The places of the first n records, in the order of the records.
@@ -43,28 +30,21 @@ fn order(
     ensures { take n places.new ≡ sorted_places (take n keys.now) (take n values.now) (take n times.now) [] }
 {
     order_places(
-        &keys[0..n],
-        &values[0..n],
-        &times[0..n],
-        &keys[0..0],
-        &mut places[0..n],
-        &mut work[0..n],
+        &keys[..n],
+        &values[..n],
+        &times[..n],
+        &[],
+        &mut places[..n],
+        &mut work[..n],
     );
 }
 
 // The first n entries of a column, in the order of n places, in the front of another.
-fn gather_front(src: &[u64], n: usize, places: &[u64], out: &mut [u64])
+fn gather_front<T: Entry>(src: &[T], n: usize, places: &[u64], out: &mut [T])
     requires { (n ≤ length src.now) × ((n ≤ length places.now) × (n ≤ length out.old)) }
-    ensures { take n out.new ≡ map (entry (take n src.now)) (take n places.now) }
+    ensures { take n out.new ≡ map (λ place. get_or (take n src.now) place T.ZERO) (take n places.now) }
 {
-    gather(&src[0..n], &places[0..n], &mut out[0..n]);
-}
-
-fn gather_diffs_front(src: &[i64], n: usize, places: &[u64], out: &mut [i64])
-    requires { (n ≤ length src.now) × ((n ≤ length places.now) × (n ≤ length out.old)) }
-    ensures { take n out.new ≡ map (diff_entry (take n src.now)) (take n places.now) }
-{
-    gather_diffs(&src[0..n], &places[0..n], &mut out[0..n]);
+    gather(&src[..n], &places[..n], &mut out[..n]);
 }
 
 // The records of two runs, one after the other.
@@ -88,7 +68,7 @@ fn join_runs(
     append(oldkeys, newkeys, bothkeys);
     append(oldvalues, newvalues, bothvalues);
     append(oldtimes, newtimes, bothtimes);
-    append_diffs(olddiffs, newdiffs, bothdiffs);
+    append(olddiffs, newdiffs, bothdiffs);
 }
 
 // The first n records, in order.
@@ -112,7 +92,7 @@ fn arrange(
     gather_front(bothkeys, n, places, keys);
     gather_front(bothvalues, n, places, values);
     gather_front(bothtimes, n, places, times);
-    gather_diffs_front(bothdiffs, n, places, diffs);
+    gather_front(bothdiffs, n, places, diffs);
 }
 
 // The input of a call: the records of both runs, in order, in the front of the last four columns. Returns how many there are. The other lent

@@ -15,6 +15,7 @@ pub fn read_full<R: Read>(input: &mut R, buf: &mut [u8]) -> io::Result<usize>
     ensures end { IfOk result (λ n. n < length buf.new → IsAtEnd (R.remaining input.new)) }
 {
     let mut done = 0;
+    // A while, since the place goes on by as many bytes as each read gave.
     while done < buf.len() {
         let n = input.read(&mut buf[done..])?;
         if n == 0 {

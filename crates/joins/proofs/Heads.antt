@@ -16,23 +16,23 @@ use Rattle.grid.specs.Times.{meet, meet_onto, meets}
 use Rattle.grid.proofs.Loops.{drop_more}
 use Rattle.grid.proofs.Times.{ext, hi-meet, lo-meet}
 use Rattle.times.specs.Meets.{optional}
-use Rattle.times.specs.declared.optional.Meet.{Meet}
-use Rattle.times.specs.declared.optional.Meet.TheVariants.{Absent, Present}
+use Rattle.times.specs.Meets.{Meet}
+use Rattle.std.specs.Prelude.{Some, None}
 use Rattle.times.specs.declared.time.PackedTime.{PackedTime}
 use Rattle.rules.specs.Discover.{lesser, least}
 use Rattle.histories.specs.Suffixes.{Suffixes}
 use Rattle.joins.specs.Heads.{head_with}
 
 module _ (t : ℕ) {u : PackedTime} {o : Meet} where
-  pub lesser_less : o ≡ Present u → ltb u.0 t ≡ true → u.0 ≡ lesser t (optional o)
+  pub lesser_less : o ≡ Some u → ltb u.0 t ≡ true → u.0 ≡ lesser t (optional o)
   unfolding lesser
   lesser_less e h = rw (e, h)
 
-  pub lesser_more : o ≡ Present u → ltb u.0 t ≡ false → t ≡ lesser t (optional o)
+  pub lesser_more : o ≡ Some u → ltb u.0 t ≡ false → t ≡ lesser t (optional o)
   unfolding lesser
   lesser_more e h = rw (e, h)
 
-pub lesser_none : (t : ℕ) {o : Meet} → o ≡ Absent → t ≡ lesser t (optional o)
+pub lesser_none : (t : ℕ) {o : Meet} → o ≡ None → t ≡ lesser t (optional o)
 unfolding lesser
 lesser_none t e = rw e
 

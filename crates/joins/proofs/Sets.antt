@@ -2,8 +2,8 @@
 --
 -- joins-append: lists in a row
 -- put_new, put_full: a time put into a set in lent memory, with room and without
--- made_none, made-below, made-beyond, made_short_lem: no join, and a single one. made_then: the joins with one list after those with another
--- Making upper n buffer count i w wn w' wn' p pn p' pn': a loop has made the joins with the times from i on. making_start, making_more, making_end: the loop keeps that
+-- made_none, made-below, made-beyond, made_short: no join, and a single one. made_then: the joins with one list after those with another
+-- Making upper n buffer i w wn w' wn' p pn p' pn': a loop has made the joins with the times from i on. making_start, making_more: the loop keeps that
 -- retracked_some, retracked_none: the tracked times joined with a meet that may be absent
 use Prim.Native.Nat.{ℕ, suc, ◌+◌, ◌-◌, ◌≤◌, ◌<◌}
 use native.Mathlib.Omega.{arith}
@@ -13,7 +13,7 @@ use mathlib.Core.Option.{Option, none, some}
 use mathlib.Core.Path.{◌≡◌, refl, sym, ◌∙◌, ap}
 use lib.Dec.{ltb, eqb}
 use lib.ListN.{length, take, drop, get_or, drop_of_length-le}
-use lib.Seq.{length-take-le, get_or-take, drop-cons, take_at}
+use lib.Seq.{length-take-le, drop-cons, take_at}
 use Rattle.grid.specs.Lists.{keep}
 use Rattle.grid.specs.Times.{join, joined, below, put, puts}
 use Rattle.grid.specs.Frontiers.{beyond, short_of}
@@ -25,7 +25,6 @@ use Rattle.rules.specs.Histories.{advance_times}
 use Rattle.rules.specs.Discover.{most_moments, joins}
 use Rattle.advances.specs.Renewed.{Renewed}
 use Rattle.histories.proofs.Loads.{map_same}
-use native.Mathlib.Nat.{sub-zero}
 use Rattle.joins.specs.Sets.{Set, Grown, same, over, Put, Made}
 
 pub joins-append : (n : ℕ) (xs ys : List ℕ) → joins n (xs ++ ys) ≡ joins n xs ++ joins n ys
@@ -91,46 +90,27 @@ module _ (upper : List ℕ) (n : ℕ) where
         let g' : Grown (join n t ∷ []) p l = rw f at g in
         record { waits = rw e (rw b' (same refl)); pends = rw e (rw b' g') }
 
-    pub made_short_lem : {j : ℕ} {l : List ℕ} → below t n ≡ false → j ≡ join n t → beyond upper j ≡ false → Grown (j ∷ []) w l → Made upper n (t ∷ []) w l p p
+    pub made_short : {j : ℕ} {l : List ℕ} → below t n ≡ false → j ≡ join n t → beyond upper j ≡ false → Grown (j ∷ []) w l → Made upper n (t ∷ []) w l p p
     unfolding joins
-    made_short_lem {j} {l} e f b g =
+    made_short {j} {l} e f b g =
         let b' : beyond upper (join n t) ≡ false = rw f at b in
         let g' : Grown (join n t ∷ []) w l = rw f at g in
         record { waits = rw e (rw b' g'); pends = rw e (rw b' (same refl)) }
 
-pub record Making (upper : List ℕ) (n : ℕ) (buffer : List ℕ) (count i : ℕ) (w : List ℕ) (wn : ℕ) (w' : List ℕ) (wn' : ℕ) (p : List ℕ) (pn : ℕ) (p' : List ℕ) (pn' : ℕ) : Type 0 where
-  pub counted : i ≤ count
-  pub within : count ≤ length buffer
-  pub same_waiting : length w' ≡ length w
-  pub same_pended : length p' ≡ length p
+pub record Making (upper : List ℕ) (n : ℕ) (buffer : List ℕ) (i : ℕ) (w : List ℕ) (wn : ℕ) (w' : List ℕ) (wn' : ℕ) (p : List ℕ) (pn : ℕ) (p' : List ℕ) (pn' : ℕ) : Type 0 where
   pub sets : Set w' wn' × Set p' pn'
-  pub made : Made upper n (drop i (take count buffer)) (take wn w) (take wn' w') (take pn p) (take pn' p')
+  pub made : Made upper n (drop i buffer) (take wn w) (take wn' w') (take pn p) (take pn' p')
 
-pub making_start : (upper : List ℕ) (n : ℕ) (buffer : List ℕ) (count : ℕ) (w : List ℕ) (wn : ℕ) (p : List ℕ) (pn : ℕ) → Set w wn × Set p pn → count ≤ length buffer → Making upper n buffer count count w wn w wn p pn p pn
-making_start upper n buffer count w wn p pn a h =
-    record {
-      counted = omega arith;
-      within = h;
-      same_waiting = refl;
-      same_pended = refl;
-      sets = a;
-      made = rw (drop_of_length-le (take count buffer) {i = count} (rw (length-take-le count buffer h) (omega arith))) (made_none upper n (take wn w) (take pn p));
-    }
+pub making_start : (upper : List ℕ) (n : ℕ) (buffer w : List ℕ) (wn : ℕ) (p : List ℕ) (pn : ℕ) → Set w wn × Set p pn → Making upper n buffer (length buffer) w wn w wn p pn p pn
+making_start upper n buffer w wn p pn a = record { sets = a; made = rw (drop_of_length-le buffer {i = length buffer} (omega arith)) (made_none upper n (take wn w) (take pn p)) }
 
-module _ {upper : List ℕ} {n : ℕ} {buffer : List ℕ} {count i : ℕ} {w : List ℕ} {wn : ℕ} {w' : List ℕ} {wn' : ℕ} {p : List ℕ} {pn : ℕ} {p' : List ℕ} {pn' : ℕ} (m : Making upper n buffer count i w wn w' wn' p pn p' pn') where
-  pub making_more : {w'' : List ℕ} {wn'' : ℕ} {p'' : List ℕ} {pn'' : ℕ} → 0 < i → length w'' ≡ length w → length p'' ≡ length p → Set w'' wn'' × Set p'' pn''
-      → Made upper n (get_or buffer (i - 1) 0 ∷ []) (take wn' w') (take wn'' w'') (take pn' p') (take pn'' p'')
-      → Making upper n buffer count (i - 1) w wn w'' wn'' p pn p'' pn''
-  making_more h wl pl a x =
-      let ic : i ≤ count = m.counted in
-      let cb : count ≤ length buffer = m.within in
-      let e : suc (i - 1) ≡ i = omega arith in
-      let d : drop (i - 1) (take count buffer) ≡ get_or buffer (i - 1) 0 ∷ drop i (take count buffer) =
-      drop-cons (take count buffer) (i - 1) 0 (rw (length-take-le count buffer cb) (omega arith)) ∙ (λ k. get_or-take count buffer (i - 1) 0 (omega arith) k ∷ drop (e k) (take count buffer)) in
-      record { counted = omega arith; within = cb; same_waiting = wl; same_pended = pl; sets = a; made = rw d (made_then upper n m.made x) }
-
-  pub making_end : i ≡ 0 → (Set w' wn' × Set p' pn') × Made upper n (take count buffer) (take wn w) (take wn' w') (take pn p) (take pn' p')
-  making_end e = (m.sets, rw e at m.made)
+pub making_more : {upper : List ℕ} {n : ℕ} {buffer : List ℕ} {i : ℕ} {w : List ℕ} {wn : ℕ} {w' : List ℕ} {wn' : ℕ} {p : List ℕ} {pn : ℕ} {p' : List ℕ} {pn' : ℕ} {w'' : List ℕ} {wn'' : ℕ} {p'' : List ℕ} {pn'' : ℕ}
+    → Making upper n buffer i w wn w' wn' p pn p' pn' → 0 < i → i ≤ length buffer → Set w'' wn'' × Set p'' pn''
+    → Made upper n (get_or buffer (i - 1) 0 ∷ []) (take wn' w') (take wn'' w'') (take pn' p') (take pn'' p'')
+    → Making upper n buffer (i - 1) w wn w'' wn'' p pn p'' pn''
+making_more {upper} {n} {buffer} {i} m h l a x =
+    let e : suc (i - 1) ≡ i = omega arith in
+    record { sets = a; made = rw (drop-cons buffer (i - 1) 0 (omega arith), e) (made_then upper n m.made x) }
 
 -- ---- tracked times
 pub retracked_some : {o : Option ℕ} {x : ℕ} {count : ℕ} {s s' : List ℕ} {r : ℕ} → o ≡ some x → Renewed (advance_times (some x) (take count s)) count s s' r → (r ≤ count) × (take r s' ≡ puts (map (joined o) (take count s)) [])
@@ -141,11 +121,10 @@ length-distinct : (ts : List ℕ) → length (puts ts []) ≤ length ts
 length-distinct [] = omega arith
 length-distinct (t ∷ ts) = let ih = length-distinct ts in let k = (length-put t (puts ts [])).1 in omega arith
 
-pub retracked_none : {o : Option ℕ} (count : ℕ) (s : List ℕ) {x : List ℕ} {r : ℕ} → o ≡ none → count ≤ length s → Removed (puts (take (count - 0) s) []) (length (take (count - 0) s)) x r → (r ≤ count) × (take r (x ++ drop (count - 0) s) ≡ puts (map (joined o) (take count s)) [])
-retracked_none {o} count s {x} {r} e h a' =
-    let a : Removed (puts (take count s) []) (length (take count s)) x r = rw sub-zero at a' in
+pub retracked_none : {o : Option ℕ} (count : ℕ) (s : List ℕ) {x : List ℕ} {r : ℕ} → o ≡ none → count ≤ length s → Removed (puts (take count s) []) (length (take count s)) x r → (r ≤ count) × (take r (x ++ drop count s) ≡ puts (map (joined o) (take count s)) [])
+retracked_none {o} count s {x} {r} e h a =
     let n : length (take count s) ≡ count = length-take-le count s h in
     let c : r ≡ length (puts (take count s) []) = a.count_is in
     let l = length-distinct (take count s) in
-    let f : take r (x ++ drop (count - 0) s) ≡ puts (take count s) [] = rw (a.exit_is, append_assoc) (take_at (puts (take count s) []) _ r (sym c)) in
+    let f : take r (x ++ drop count s) ≡ puts (take count s) [] = rw (a.exit_is, append_assoc) (take_at (puts (take count s) []) _ r (sym c)) in
     (omega arith, f ∙ sym (rw (e, map_same (take count s))))

@@ -6,7 +6,7 @@ ghost use Rattle.joins.specs.Sets.{Set, Put, Made};
 
 use advances::advance_times;
 use distinct::{insert_distinct, sort_distinct};
-use times::{Meet, PackedTime, is_beyond};
+use times::{PackedTime, is_beyond};
 
 // The most moments, waiting joins and pended times of a key.
 pub const MOST_MOMENTS: usize = 1024;
@@ -24,9 +24,10 @@ pub fn put_time(s: &mut [u64], count: usize, t: PackedTime) -> usize
     ensures { Put t.0 s.old count s.new result }
 {
     if count > MOST_MOMENTS {
-        return count;
+        count
+    } else {
+        insert_distinct(s, count, t)
     }
-    insert_distinct(s, count, t)
 }
 
 // The join of n with t, if t is not at or below n: pended if it is beyond upper, else it waits.
@@ -46,36 +47,32 @@ fn join_one(
     }
     let j = n.join(t);
     if is_beyond(upper, j) {
-        let p = put_time(pended, counts.pended, j);
-        return Counts {
-            waiting: counts.waiting,
-            pended: p,
-        };
-    }
-    let w = put_time(waiting, counts.waiting, j);
-    Counts {
-        waiting: w,
-        pended: counts.pended,
+        Counts {
+            pended: put_time(pended, counts.pended, j),
+            ..counts
+        }
+    } else {
+        Counts {
+            waiting: put_time(waiting, counts.waiting, j),
+            ..counts
+        }
     }
 }
 
-// The joins of n with the first `count` times of a buffer, the last first.
+// The joins of n with the times of a buffer, the last first.
 fn join_all(
     upper: &[u64],
     n: PackedTime,
     buffer: &[u64],
-    count: usize,
     waiting: &mut [u64],
     pended: &mut [u64],
     counts: Counts,
 ) -> Counts
-    requires { (Set waiting.old counts.waiting × Set pended.old counts.pended) × (count ≤ length buffer.now) }
-    ensures { (Set waiting.new result.waiting × Set pended.new result.pended) × Made upper.now n.0 (take count buffer.now) (take counts.waiting waiting.old) (take result.waiting waiting.new) (take counts.pended pended.old) (take result.pended pended.new) }
+    requires { Set waiting.old counts.waiting × Set pended.old counts.pended }
+    ensures { (Set waiting.new result.waiting × Set pended.new result.pended) × Made upper.now n.0 buffer.now (take counts.waiting waiting.old) (take result.waiting waiting.new) (take counts.pended pended.old) (take result.pended pended.new) }
 {
-    let mut i = count;
     let mut c = counts;
-    while i > 0 {
-        i -= 1;
+    for i in (0..buffer.len()).rev() {
         c = join_one(upper, n, PackedTime(buffer[i]), waiting, pended, c);
     }
     c
@@ -96,20 +93,20 @@ pub fn join_both(
     requires { (Set waiting.old counts.waiting × Set pended.old counts.pended) × ((fcount ≤ length first.now) × (scount ≤ length second.now)) }
     ensures { (Set waiting.new result.waiting × Set pended.new result.pended) × Made upper.now n.0 (take fcount first.now ++ take scount second.now) (take counts.waiting waiting.old) (take result.waiting waiting.new) (take counts.pended pended.old) (take result.pended pended.new) }
 {
-    let c = join_all(upper, n, second, scount, waiting, pended, counts);
-    join_all(upper, n, first, fcount, waiting, pended, c)
+    let c = join_all(upper, n, &second[..scount], waiting, pended, counts);
+    join_all(upper, n, &first[..fcount], waiting, pended, c)
 }
 
 // Joins the tracked times with the meet, if there is one, and removes equals. Returns how many are left.
-pub fn retrack(m: Meet, tracked: &mut [u64], count: usize, work: &mut [u64]) -> usize
+pub fn retrack(m: Option<PackedTime>, tracked: &mut [u64], count: usize, work: &mut [u64]) -> usize
     requires { (count ≤ length tracked.old) × (count ≤ length work.old) }
     ensures { (result ≤ count) × (take result tracked.new ≡ puts (map (joined (optional m)) (take count tracked.old)) []) }
 {
     if count == 0 {
         return 0;
     }
-    if let Meet::Present(p) = m {
-        return advance_times(tracked, count, Meet::Present(p), work);
+    match m {
+        Some(p) => advance_times(tracked, count, Some(p), work),
+        None => sort_distinct(&mut tracked[..count], &mut work[..count]),
     }
-    sort_distinct(&mut tracked[0..count], &mut work[0..count])
 }

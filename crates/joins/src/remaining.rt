@@ -7,29 +7,27 @@ ghost use Rattle.rules.specs.Discover.{lesser, least};
 ghost use Rattle.histories.specs.Suffixes.{Suffixes};
 ghost use Rattle.joins.specs.Heads.{head_with};
 
-use times::{Meet, PackedTime, meet_onto};
+use times::{PackedTime, meet_onto};
 
 // The lesser of t and another time, if there is one.
-fn lesser(t: PackedTime, o: Meet) -> PackedTime
+fn lesser(t: PackedTime, o: Option<PackedTime>) -> PackedTime
     ensures { result.0 ≡ lesser t.0 (optional o) }
 {
-    if let Meet::Present(u) = o {
-        if u.before(t) {
-            return u;
-        }
-        return t;
+    match o {
+        Some(u) => if u < t { u } else { t },
+        None => t,
     }
-    t
 }
 
 // The lesser of the next time and another, where they are there.
-fn head_with(times: &[u64], at: usize, o: Meet) -> Meet
+fn head_with(times: &[u64], at: usize, o: Option<PackedTime>) -> Option<PackedTime>
     ensures { optional result ≡ head_with (drop at times.now) (optional o) }
 {
     if at < times.len() {
-        return Meet::Present(lesser(PackedTime(times[at]), o));
+        Some(lesser(PackedTime(times[at]), o))
+    } else {
+        o
     }
-    o
 }
 
 // The least head of seeds, pending, input, output and waiting joins, absent if nothing remains.
@@ -43,10 +41,10 @@ pub fn next_time(
     output: &[u64],
     oat: usize,
     waiting: &[u64],
-) -> Meet
+) -> Option<PackedTime>
     ensures { optional result ≡ least (take 1 (drop sat seeds.now) ++ (take 1 (drop pat pending.now) ++ (take 1 (drop iat input.now) ++ (take 1 (drop oat output.now) ++ take 1 waiting.now)))) }
 {
-    let a = head_with(waiting, 0, Meet::Absent);
+    let a = head_with(waiting, 0, None);
     let b = head_with(output, oat, a);
     let c = head_with(input, iat, b);
     let d = head_with(pending, pat, c);
@@ -54,14 +52,20 @@ pub fn next_time(
 }
 
 // The meet of what is ahead and another, where they are there.
-fn meet_with(times: &[u64], suffixes: &[u64], at: usize, o: Meet) -> Meet
+fn meet_with(
+    times: &[u64],
+    suffixes: &[u64],
+    at: usize,
+    o: Option<PackedTime>,
+) -> Option<PackedTime>
     requires { Suffixes times.now suffixes.now at }
     ensures { optional result ≡ meets (drop at times.now) (optional o) }
 {
     if at < times.len() {
-        return Meet::Present(meet_onto(PackedTime(suffixes[at]), o));
+        Some(meet_onto(PackedTime(suffixes[at]), o))
+    } else {
+        o
     }
-    o
 }
 
 // The meet of what is ahead in the four histories, absent if nothing is. Waiting joins are met with it once those of this step are made.
@@ -78,11 +82,11 @@ pub fn meet_of_four(
     output: &[u64],
     outputm: &[u64],
     oat: usize,
-) -> Meet
+) -> Option<PackedTime>
     requires { Suffixes seeds.now seedm.now sat × (Suffixes pending.now pendm.now pat × (Suffixes input.now inputm.now iat × Suffixes output.now outputm.now oat)) }
     ensures { optional result ≡ meets (drop sat seeds.now ++ (drop pat pending.now ++ (drop iat input.now ++ drop oat output.now))) none }
 {
-    let a = meet_with(output, outputm, oat, Meet::Absent);
+    let a = meet_with(output, outputm, oat, None);
     let b = meet_with(input, inputm, iat, a);
     let c = meet_with(pending, pendm, pat, b);
     meet_with(seeds, seedm, sat, c)

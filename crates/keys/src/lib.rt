@@ -5,7 +5,7 @@ mod changes;
 mod parts;
 
 pub use changes::changed_keys;
-pub use parts::{diffs_part, key_part, span_of};
+pub use parts::{key_part, span_of};
 
 // Where a key's part of a run begins, and where it ends.
 #[derive(Clone, Copy)]

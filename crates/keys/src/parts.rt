@@ -11,30 +11,14 @@ use times::KeyHash;
 fn end_below(keys: &[u64], start: usize, key: KeyHash) -> usize
     ensures { result ≡ start + length (front (λ x. ltb x key.0) (drop start keys.now)) }
 {
-    let mut i = start;
-    while i < keys.len() {
-        if keys[i] < key.0 {
-            i += 1;
-        } else {
-            return i;
-        }
-    }
-    i
+    start + keys.iter().skip(start).take_while(|x| **x < key.0).count()
 }
 
 // Where the keys equal to a key end, from the place `start` on.
 pub fn end_equal(keys: &[u64], start: usize, key: KeyHash) -> usize
     ensures { result ≡ start + length (front (eqb key.0) (drop start keys.now)) }
 {
-    let mut i = start;
-    while i < keys.len() {
-        if key.0 == keys[i] {
-            i += 1;
-        } else {
-            return i;
-        }
-    }
-    i
+    start + keys.iter().skip(start).take_while(|x| key.0 == **x).count()
 }
 
 // A key's part of a run. The keys that one asks for ascend, so that each search goes on where the last one ended.
@@ -46,21 +30,10 @@ pub fn span_of(keys: &[u64], start: usize, key: KeyHash) -> Span
     Span { from, to }
 }
 
-// That part of a column, as it lies in the lent run.
-pub fn key_part<'a>(column: &'a [u64], s: Span) -> &'a [u64]
+// That part of a column, of keys, of times or of diffs, as it lies in the lent run.
+pub fn key_part<'a, T>(column: &'a [T], s: Span) -> &'a [T]
     requires { Within (length column.now) s }
     ensures { result.now ≡ part s.from s.to column.now }
 {
-    let from = s.from;
-    let to = s.to;
-    &column[from..to]
-}
-
-pub fn diffs_part<'a>(column: &'a [i64], s: Span) -> &'a [i64]
-    requires { Within (length column.now) s }
-    ensures { result.now ≡ part s.from s.to column.now }
-{
-    let from = s.from;
-    let to = s.to;
-    &column[from..to]
+    &column[s.from..s.to]
 }

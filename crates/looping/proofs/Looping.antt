@@ -5,17 +5,17 @@
 -- looping_takes: what the next window's turn asks. looping_less: fewer keys are left
 use Prim.Native.Nat.{ℕ, ◌+◌, ◌-◌, ◌*◌, ◌≤◌, ◌<◌, min}
 use native.Mathlib.Omega.{arith}
-use mathlib.Core.Bool.{Bool, true, false, ◌&&◌, not}
+use mathlib.Core.Bool.{Bool, true, false}
 use mathlib.Core.List.{List, [], ◌∷◌, ◌++◌, map, append_assoc, append-nil, map-append}
 use mathlib.Core.Path.{◌≡◌, refl, sym, ◌∙◌, ap, subst}
 use lib.Dec.{ltb}
 use lib.IntN.{ℤ}
 use lib.ListN.{length, take, drop, length-take, length-map, drop_of_length-le, take-append-drop}
 use lib.Seq.{drop-drop, length-take-le}
-use borrow.Author.Tests.{ltb-true, ltb-false, le-ltb, not-true}
+use borrow.Author.Tests.{le-ltb}
 use Rattle.grid.specs.Lists.{flat, ascending}
 use Rattle.grid.specs.Records.{Row, rows, pairs}
-use Rattle.grid.proofs.Tests.{by-test, clash, and_l, and_r}
+use Rattle.grid.proofs.Tests.{by-test, clash, and_l}
 use Rattle.grid.proofs.Lists.{All, all_of, all_l}
 use Rattle.grid.proofs.Ascending.{ascending_rest}
 use Rattle.rules.specs.Discover.{most_moments, State}
@@ -139,18 +139,12 @@ looping_start {most} mode {keys = keys} l nk nt fk fv ft fd =
     }
 
 module _ {most : ℕ} {R : Runs} {mode width : ℕ} {keys nk nt fk fv ft : List ℕ} {fd : List ℤ} {p : ℕ} {w : Progress} (L : Looping most R mode width keys nk nt fk fv ft fd p w) (l : Loops most R width keys) where
-  module _ (goes : (not w.over && ltb p (length keys)) ≡ true) {e : ℕ} (e-is : e ≡ min (p + width) (length keys)) where
+  module _ (before : p < length keys) (under : w.over ≡ false) {e : ℕ} (e-is : e ≡ min (p + width) (length keys)) where
     abbrev window : List ℕ
     window = part p e keys
 
     abbrev later : List ℕ
     later = drop e keys
-
-    before : p < length keys
-    before = ltb-true p (length keys) (and_r (not w.over) (ltb p (length keys)) goes)
-
-    under : w.over ≡ false
-    under = not-true w.over (and_l (not w.over) (ltb p (length keys)) goes)
 
     cut_here : drop p keys ≡ window ++ later
     cut_here = cut p e keys (omega (arith, before))
@@ -180,7 +174,7 @@ module _ {most : ℕ} {R : Runs} {mode width : ℕ} {keys nk nt fk fv ft : List 
           };
           next_few = L.next_few;
           fits = L.fits;
-          counts = λ o t. (let c : w.crossings ≤ p * 1024 = L.counts o t in let b : p < length keys = before in omega arith);
+          counts = λ o t. (let c : w.crossings ≤ p * 1024 = L.counts o t in omega (arith, before));
         }
 
     module _ {nk' nt' fk' fv' ft' : List ℕ} {fd' : List ℤ} {r : Progress} (T : Turned most R mode window w nk nt fk fv ft fd nk' nt' fk' fv' ft' fd' r)
@@ -242,7 +236,7 @@ module _ {most : ℕ} {R : Runs} {mode width : ℕ} {keys nk nt fk fv ft : List 
             let c : r.crossings ≡ w.crossings + crossed = (T.settles o (fitted h)).crossings_are h in
             let b : w.crossings ≤ p * 1024 = L.counts under (fitted h) in
             let m : crossed ≤ 1024 = crossings_few mode R most w.over w.pended window (sym T.over_is ∙ o) in
-            let i : p < e = (let x : p < length keys = before in let y : 1 ≤ width = l.wide in omega arith) in
+            let i : p < e = omega (arith, before, l.wide) in
             omega arith
 
         module _ {q : Request} (a : Asked q mode width R keys) where
@@ -307,10 +301,7 @@ module _ {most : ℕ} {R : Runs} {mode width : ℕ} {keys nk nt fk fv ft : List 
         through = λ o t q a. through_now o a (fitted t) t;
       }
 
-  module _ (ends : (not w.over && ltb p (length keys)) ≡ false) where
-    past : w.over ≡ false → length keys ≤ p
-    past o = ltb-false p (length keys) (sym (rw o) ∙ ends)
-
+  module _ (past : w.over ≡ false → length keys ≤ p) where
     none_left : w.over ≡ false → drop p keys ≡ []
     none_left o = drop_of_length-le keys (past o)
 

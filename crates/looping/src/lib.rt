@@ -12,10 +12,7 @@ pub fn window_end(p: usize, width: usize, n: usize) -> usize
     requires { p ≤ n }
     ensures { result ≡ min (p + width) n }
 {
-    if width < n - p {
-        return p + width;
-    }
-    n
+    p + width.min(n - p)
 }
 
 // What is told of the windows once they are done.

@@ -1,15 +1,18 @@
--- Marks are set and counted one by one.
+-- Marks are set and counted.
 --
 -- marked_yes, marked_no: a round that is marked, and one that is not
--- Counted: of the marks before j, n are set. counted_start, counted_more, counted_other, counted_end
-use Prim.Native.Nat.{ℕ, suc, ◌+◌, ◌<◌, ◌≤◌}
+-- marks_counted: the marks that are 1 are those that count
+use Prim.Native.Nat.{ℕ, ◌+◌}
 use native.Mathlib.Omega.{arith}
-use mathlib.Core.Bool.{Bool, true, false}
-use mathlib.Core.Path.{◌≡◌, refl, sym, ◌∙◌, ap}
-use mathlib.Core.List.{List, [], ◌∷◌}
-use lib.ListN.{length, drop, get_or, set, drop_of_length-le}
-use borrow.Author.Tests.{ne_eqb}
-use Rattle.grid.proofs.Loops.{drop_more}
+use mathlib.Core.Bool.{Bool, true, false, cond}
+use mathlib.Core.Path.{◌≡◌, refl, sym}
+use mathlib.Core.List.{List, ◌∷◌}
+use lib.Dec.{eqb}
+use lib.ListN.{set}
+use borrow.Author.Tests.{eq-eqb, ne_eqb, eqb-true, eqb-false}
+use Rattle.std.specs.Prelude.{count_by}
+use Rattle.std.proofs.lemmas.List.Recursion.{is_count_by}
+use Rattle.grid.proofs.Tests.{by-test}
 use Rattle.marks.specs.Marks.{marked_at, count_of}
 
 pub marked_yes : {c : Bool} (j : ℕ) (ms : List ℕ) → c ≡ true → set ms j 1 ≡ marked_at c j ms
@@ -20,39 +23,12 @@ pub marked_no : {c : Bool} (j : ℕ) (ms : List ℕ) → c ≡ false → ms ≡ 
 unfolding marked_at
 marked_no j ms e = rw e
 
-pub record Counted (ms : List ℕ) (j n : ℕ) : Type 0 where
-  pub within : j ≤ length ms
-  pub least : n ≤ j
-  pub rest : n + count_of (drop j ms) ≡ count_of ms
-
-pub counted_start : (ms : List ℕ) → Counted ms 0 0
-counted_start ms = record { within = omega arith; least = omega arith; rest = let q : drop 0 ms ≡ ms = refl in omega (arith, ap count_of q) }
-
-count_yes : (m : ℕ) (ms : List ℕ) → m ≡ 1 → count_of (m ∷ ms) ≡ suc (count_of ms)
+marks_more : (m : ℕ) (ms : List ℕ) → count_of (m ∷ ms) ≡ cond (eqb m 1) (1 + count_of ms) (count_of ms)
 unfolding count_of
-count_yes m ms e = rw e
+marks_more m ms =
+    by-test (eqb m 1) (λ e. let q : m ≡ 1 = eqb-true m 1 e in rw (e, eq-eqb 1 m (sym q)) (omega arith))
+    (λ e. rw (e, ne_eqb 1 m (λ q. eqb-false m 1 e (sym q))))
 
-count_no : (m : ℕ) (ms : List ℕ) → (m ≡ 1 → ⊥) → count_of (m ∷ ms) ≡ count_of ms
+pub marks_counted : (ms : List ℕ) → count_of ms ≡ count_by (λ m. eqb m 1) ms
 unfolding count_of
-count_no m ms f = rw (ne_eqb 1 m (λ e. f (sym e)))
-
-count_none : count_of [] ≡ 0
-unfolding count_of
-count_none = refl
-
-module _ {ms : List ℕ} {j n : ℕ} (i : Counted ms j n) where
-  module _ (h : j < length ms) where
-    pub counted_more : get_or ms j 0 ≡ 1 → Counted ms (j + 1) (n + 1)
-    counted_more e =
-        let q : count_of (drop j ms) ≡ suc (count_of (drop (j + 1) ms)) = ap count_of (drop_more ms j 0 h) ∙ count_yes (get_or ms j 0) (drop (j + 1) ms) e in
-        record { within = omega arith; least = omega arith; rest = omega arith }
-
-    pub counted_other : (get_or ms j 0 ≡ 1 → ⊥) → Counted ms (j + 1) n
-    counted_other f =
-        let q : count_of (drop j ms) ≡ count_of (drop (j + 1) ms) = ap count_of (drop_more ms j 0 h) ∙ count_no (get_or ms j 0) (drop (j + 1) ms) f in
-        record { within = omega arith; least = omega arith; rest = omega arith }
-
-  pub counted_end : length ms ≤ j → n ≡ count_of ms
-  counted_end h =
-      let q : count_of (drop j ms) ≡ 0 = ap count_of (drop_of_length-le ms {i = j} h) ∙ count_none in
-      omega arith
+marks_counted = is_count_by count_of (λ m. eqb m 1) refl marks_more

@@ -1,15 +1,15 @@
 -- The longest list of moments.
 --
--- Spanning: the segments before b are looked at; the next begins at f, and the longest has `most`. spanning_start, span_more, span_other, spanning_end
+-- Spanning: the segments before b are looked at; the next begins at f, and the longest has `most`. span-bound, spanning_more, spanning_end
 -- span-least: the longest is no shorter than one before. span_most: no list is longer than 1,024
-use Prim.Native.Nat.{ℕ, ◌+◌, ◌-◌, ◌<◌, ◌≤◌}
+use Prim.Native.Nat.{ℕ, ◌+◌, ◌-◌, ◌<◌, ◌≤◌, max}
 use native.Mathlib.Omega.{arith}
 use mathlib.Core.Bool.{cond}
 use mathlib.Core.Path.{◌≡◌, refl, sym, ◌∙◌, ap, subst}
 use mathlib.Core.List.{List, [], ◌∷◌}
 use lib.Dec.{ltb}
 use lib.ListN.{length, drop, get_or, drop_of_length-le}
-use borrow.Author.Tests.{lt-ltb, le-ltb, ltb-true}
+use borrow.Author.Tests.{ltb-true, ltb-false}
 use Rattle.grid.proofs.Tests.{by-test}
 use Rattle.grid.proofs.Loops.{drop_more}
 use Rattle.rules.specs.Discover.{most_moments}
@@ -19,9 +19,6 @@ pub record Spanning (es : List ℕ) (b f most : ℕ) : Type 0 where
   pub bn : b ≤ length es
   pub steps : Steps f (drop b es)
   pub span : span_from most f (drop b es) ≡ span_from 0 0 es
-
-pub spanning_start : {es : List ℕ} → Steps 0 es → Spanning es 0 0 0
-spanning_start s = record { bn = omega arith; steps = s; span = refl }
 
 steps_parts : {f e : ℕ} {es : List ℕ} → Steps f (e ∷ es) → (f ≤ e) × ((e - f ≤ most_moments) × Steps e es)
 steps_parts (next a b s) = (a, (b, s))
@@ -45,11 +42,11 @@ module _ {es : List ℕ} {b f most : ℕ} (m : Spanning es b f most) where
       span = ap (λ x. span_from x e (drop (b + 1) es)) (sym q) ∙ sym (ap (span_from most f) (drop_more es b 0 h)) ∙ m.span;
     }
 
-    pub span_more : most < e - f → Spanning es (b + 1) e (e - f)
-    span_more g = step (e - f) (rw (lt-ltb most (e - f) g))
-
-    pub span_other : e - f ≤ most → Spanning es (b + 1) e most
-    span_other g = step most (rw (le-ltb most (e - f) g))
+    pub spanning_more : {n : ℕ} → n ≡ max most (e - f) → Spanning es (b + 1) e n
+    spanning_more {n} q =
+        step n
+        (by-test (ltb most (e - f)) (λ t. let g : most < e - f = ltb-true most (e - f) t in rw t (omega arith))
+        (λ t. let g : e - f ≤ most = ltb-false most (e - f) t in rw t (omega arith)))
 
   pub spanning_end : length es ≤ b → most ≡ span_from 0 0 es
   unfolding span_from

@@ -19,17 +19,7 @@ pub fn count_marks(marks: &[u8]) -> usize
     requires { length marks.now < 2 ^ 32 }
     ensures { result ≡ count_of marks.now }
 {
-    let mut j = 0;
-    let mut n = 0;
-    while j < marks.len() {
-        if marks[j] == 1 {
-            n += 1;
-            j += 1;
-        } else {
-            j += 1;
-        }
-    }
-    n
+    marks.iter().filter(|m| **m == 1).count()
 }
 
 // How long the longest list of moments is. Each ends where `ends` tells.
@@ -37,19 +27,11 @@ pub fn longest(ends: &[usize]) -> usize
     requires { Steps 0 ends.now }
     ensures { result ≡ span_from 0 0 ends.now }
 {
-    let mut b = 0;
-    let mut f = 0;
-    let mut most = 0;
-    while b < ends.len() {
-        let e = ends[b];
-        if most < e - f {
-            most = e - f;
-            f = e;
-            b += 1;
-        } else {
-            f = e;
-            b += 1;
-        }
+    let mut first = 0;
+    let mut most: usize = 0;
+    for end in ends {
+        most = most.max(*end - first);
+        first = *end;
     }
     most
 }

@@ -2,8 +2,8 @@
 --
 -- span_steps: a cut in steps. settle_weighs: what choosing a way asks
 -- corrects_room: the front of result memory is long enough. corrects_asks: what the rounds ask. corrects_steps, corrects_within, corrects_short, corrects_adds: what counting them asks
--- past p s c: a call that has come as far as p, then settled a window to s and counted c rounds
--- corrected_left: what a window leaves whose rounds are left out. corrected_done: what it leaves after its rounds
+-- past p n c: a call that has come as far as p, then settled a window to n corrections and counted c rounds. past_large: then to too large ones
+-- corrected_left: what a window leaves whose rounds are left out. corrected_done: what it leaves after its rounds. corrected_over: where they are too large
 use Prim.Native.Nat.{ℕ, ◌+◌, ◌-◌, ◌≤◌, ◌<◌, ◌^◌}
 use native.Mathlib.Omega.{arith}
 use native.Mathlib.Nat.{sub-zero}
@@ -29,10 +29,9 @@ use Rattle.moments.specs.Window.{parts_of}
 use Rattle.marks.specs.Marks.{marked_all, count_of, span_from, Steps, done, next}
 use Rattle.marks.proofs.Spanning.{span-least, span_most}
 use Rattle.marks.proofs.Counting.{marked-count, count_most}
-use Rattle.slots.specs.Slots.{Slot, slots_of, slot_rounds, crossed_in, window_crossings}
-use Rattle.fixing.specs.Settle.{WindowSettled}
+use Rattle.slots.specs.Slots.{Slot, slots_of, slot_rounds, crossed_in, window_rows, window_crossings}
+use Rattle.fixing.specs.Settle.{Listed, WindowSettled, WindowOver}
 use Rattle.fixing.specs.Windows.{LentRounds, Slotted}
-use Rattle.fixing.specs.declared.Settled.{Settled}
 use Rattle.fixing.proofs.Slotting.{crossed_by}
 use Rattle.progress.specs.declared.Progress.{Progress}
 use Rattle.mending.specs.Corrected.{Wide, Corrects, Corrected, Weighs}
@@ -65,16 +64,29 @@ crossed_short mode n (k ∷ keys) (i ∷ is) (o ∷ os) (m ∷ ms) (cons p a) =
     cons {x = crossed_in (settle mode i o m)} (omega arith) (crossed_short mode n keys is os ms a)
 
 -- ---- what a window leaves
-abbrev pub past : Progress → Settled → ℕ → Progress
-past p s c = record {
+abbrev pub past : Progress → ℕ → ℕ → Progress
+past p n c = record {
   new = p.new;
   pending = p.pending;
   input = p.input;
   out = p.out;
   pended = p.pended;
-  fixes = s.fixes;
+  fixes = n;
   crossings = p.crossings + c;
-  large = s.large;
+  large = p.large;
+  over = p.over;
+}
+
+abbrev pub past_large : Progress → Progress
+past_large p = record {
+  new = p.new;
+  pending = p.pending;
+  input = p.input;
+  out = p.out;
+  pended = p.pended;
+  fixes = p.fixes;
+  crossings = p.crossings;
+  large = true;
   over = p.over;
 }
 
@@ -174,16 +186,31 @@ module _ {most : ℕ} {keys moments mends fs es tv tt : List ℕ} {td : List ℤ
       pub corrects_adds : p.crossings + c < 2 ^ 64
       corrects_adds = let h : c ≤ 1024 = corrects_few in let k : p.crossings < 2 ^ 60 = x.counts still small in omega arith
 
-      pub corrected_done : {mode : ℕ} {s : Settled} {fk' fv' ft' : List ℕ} {fd' : List ℤ}
-          → WindowSettled most mode (slots_of keys is os ms) p.fixes s (replicate 1024 0) marks fk fv ft fd fk' fv' ft' fd'
-          → Corrected most mode keys is os ms p (past p s c) fk fv ft fd fk' fv' ft' fd'
-      corrected_done {mode} {s} d = record {
+      pub corrected_done : {mode r : ℕ} {fk' fv' ft' : List ℕ} {fd' : List ℤ}
+          → WindowSettled most mode (slots_of keys is os ms) p.fixes r (replicate 1024 0) marks fk fv ft fd fk' fv' ft' fd'
+          → Corrected most mode keys is os ms p (past p r c) fk fv ft fd fk' fv' ft' fd'
+      corrected_done {mode} {r} {fk'} {fv'} {ft'} {fd'} d = record {
         new_same = refl;
         pending_same = refl;
         input_same = refl;
         out_same = refl;
         pended_same = refl;
         over-same = refl;
-        stays_large = λ h. clash p.large h small;
-        settles = λ o l. record { listed = d.listed; crossings_are = λ h. ap (λ k. p.crossings + k) (q ∙ count_is mode n keys is os slotted.cut_m e corrects_most (d.marks_are h)) };
+        stays_large = λ h. h;
+        settles = λ o l. record {
+          listed = subst (λ b. Listed most (window_rows mode (slots_of keys is os ms)) p.fixes b r fk fv ft fd fk' fv' ft' fd') (sym l) d.listed;
+          crossings_are = λ h. ap (λ k. p.crossings + k) (q ∙ count_is mode n keys is os slotted.cut_m e corrects_most d.marks_are);
+        };
       }
+
+  pub corrected_over : {mode : ℕ} {fk' fv' ft' : List ℕ} {fd' : List ℤ} → WindowOver most mode (slots_of keys is os ms) p.fixes → Corrected most mode keys is os ms p (past_large p) fk fv ft fd fk' fv' ft' fd'
+  corrected_over o = record {
+    new_same = refl;
+    pending_same = refl;
+    input_same = refl;
+    out_same = refl;
+    pended_same = refl;
+    over-same = refl;
+    stays_large = λ h. refl;
+    settles = λ _ _. record { listed = record { large_is = sym o; fixes_are = λ h. clash true refl h; rows_are = λ h. clash true refl h }; crossings_are = λ h. clash true refl h };
+  }

@@ -1,14 +1,14 @@
 // The rounds of a window, unless a limit was passed or the corrections are too large already.
-ghost use Rattle.std.specs.Prelude.{◌≡◌, length};
+ghost use Rattle.std.specs.Prelude.{◌≡◌, length, MatchResult};
 ghost use Rattle.backends.specs.Segments.{segments};
 ghost use Rattle.moments.specs.Present.{edits};
 ghost use Rattle.moments.specs.Window.{parts_of};
 ghost use Rattle.slots.specs.Slots.{slots_of};
-ghost use Rattle.fixing.specs.Settle.{WindowSettled};
+ghost use Rattle.fixing.specs.Settle.{WindowSettled, WindowOver};
 ghost use Rattle.fixing.specs.Windows.{LentRounds, Slotted};
 ghost use Rattle.mending.specs.Corrected.{Wide, Corrects, Corrected, Weighs};
 
-use fixing::Settled;
+use fixing::TooLarge;
 use marks::{count_marks, longest};
 use plain::settle_plainly;
 use progress::{Progress, is_done};
@@ -18,16 +18,10 @@ use replaying::settle_replayed;
 fn extent(from: &[usize], to: &[usize]) -> usize
     requires { length to.now ≡ length from.now }
 {
-    let n = from.len();
-    if n == 0 {
-        return 0;
+    match (from.first(), to.last()) {
+        (Some(first), Some(end)) => end.saturating_sub(*first),
+        _ => 0,
     }
-    let f = from[0];
-    let e = to[n - 1];
-    if f < e {
-        return e - f;
-    }
-    0
 }
 
 // Whether a collapsed replay is the faster way: some key has many moments, and the keys have many records. Both ways have one contract.
@@ -40,17 +34,11 @@ fn pays_to_replay(
 ) -> bool
     requires { Weighs mends.now from.now to.now ofrom.now oto.now }
 {
-    if longest(mends) < 8 {
-        return false;
-    }
-    let n = 64 * mends.len();
-    if n <= extent(from, to) {
-        return true;
-    }
-    n <= extent(ofrom, oto)
+    let least = 64 * mends.len();
+    longest(mends) >= 8 && (least <= extent(from, to) || least <= extent(ofrom, oto))
 }
 
-// Settles the window's rounds, the faster way.
+// Settles the window's rounds, the faster way, and returns how many corrections there are.
 fn settle(
     mode: u64,
     keys: &[u64],
@@ -81,20 +69,21 @@ fn settle(
     ft: &mut [u64],
     fd: &mut [i64],
     fixes: usize,
-) -> Settled
+) -> Result<usize, TooLarge>
     requires { Slotted (length fk.old) (length keys.now) moments.now mends.now from.now to.now tv.now tt.now td.now ofrom.now oto.now outvalues.now outtimes.now outdiffs.now × LentRounds (length fk.old) uv.old ut.old ud.old iv.old id.old ov.old od.old cv.old cd.old marks.old fk.old fv.old ft.old fd.old fixes }
-    ensures { WindowSettled (length fk.old) mode (slots_of keys.now (parts_of from.now to.now (edits tv.now tt.now td.now)) (parts_of ofrom.now oto.now (edits outvalues.now outtimes.now outdiffs.now)) (segments 0 mends.now moments.now)) fixes result marks.old marks.new fk.old fv.old ft.old fd.old fk.new fv.new ft.new fd.new }
+    ensures { MatchResult result (λ r. WindowSettled (length fk.old) mode (slots_of keys.now (parts_of from.now to.now (edits tv.now tt.now td.now)) (parts_of ofrom.now oto.now (edits outvalues.now outtimes.now outdiffs.now)) (segments 0 mends.now moments.now)) fixes r marks.old marks.new fk.old fv.old ft.old fd.old fk.new fv.new ft.new fd.new) (λ _. WindowOver (length fk.old) mode (slots_of keys.now (parts_of from.now to.now (edits tv.now tt.now td.now)) (parts_of ofrom.now oto.now (edits outvalues.now outtimes.now outdiffs.now)) (segments 0 mends.now moments.now)) fixes) }
 {
     if pays_to_replay(mends, from, to, ofrom, oto) {
-        return settle_replayed(
+        settle_replayed(
             mode, keys, moments, mends, from, to, tv, tt, td, ofrom, oto, outvalues, outtimes,
             outdiffs, uv, ut, ud, iv, id, ov, od, cv, cd, marks, fk, fv, ft, fd, fixes,
-        );
+        )
+    } else {
+        settle_plainly(
+            mode, keys, moments, mends, from, to, tv, tt, td, ofrom, oto, outvalues, outtimes,
+            outdiffs, uv, ut, ud, iv, id, ov, od, cv, cd, marks, fk, fv, ft, fd, fixes,
+        )
     }
-    settle_plainly(
-        mode, keys, moments, mends, from, to, tv, tt, td, ofrom, oto, outvalues, outtimes,
-        outdiffs, uv, ut, ud, iv, id, ov, od, cv, cd, marks, fk, fv, ft, fd, fixes,
-    )
 }
 
 // Settles a window's rounds: its corrections are appended to those so far, and the rounds in which a key crossed are counted. The front of result memory
@@ -138,7 +127,7 @@ pub fn correct_window(
     }
     let long = cd.len();
     let mut marks = [0u8; 1024];
-    let s = settle(
+    let settled = settle(
         mode,
         keys,
         moments,
@@ -169,17 +158,16 @@ pub fn correct_window(
         fd,
         p.fixes,
     );
-    let n = longest(mends);
-    let c = count_marks(&marks[0..n]);
-    Progress {
-        new: p.new,
-        pending: p.pending,
-        input: p.input,
-        out: p.out,
-        pended: p.pended,
-        fixes: s.fixes,
-        crossings: p.crossings + c as u64,
-        large: s.large,
-        over: p.over,
+    match settled {
+        Ok(fixes) => {
+            let n = longest(mends);
+            let crossed = count_marks(&marks[0..n]);
+            Progress {
+                fixes,
+                crossings: p.crossings + crossed as u64,
+                ..p
+            }
+        }
+        Err(TooLarge) => Progress { large: true, ..p },
     }
 }

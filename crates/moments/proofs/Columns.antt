@@ -1,7 +1,7 @@
 -- Edits in three columns.
 --
--- edits_values, edits-diffs, edits-at: what stands in columns of one length. edits-length, edits_long: how many edits there are, at most and of columns of one length
--- edits-append: columns one after the other. edits_of_lem: the columns of edits
+-- edits_values, edits_times, edits-diffs, edits-at: what stands in columns of one length. edits-length, edits_long: how many edits there are, at most and of columns of one length
+-- edits-append: columns one after the other. edits_of_columns: the columns of edits
 -- take-edits, drop-edits: the front of each column, and what follows it. part-edits: a part of each. front_edits: the part from 0 on
 use Prim.Native.Nat.{ℕ, zero, suc, ◌-◌, ◌<◌, ◌≤◌}
 use native.Mathlib.Omega.{arith}
@@ -25,6 +25,14 @@ edits_values [] ts ds a b = refl
 edits_values (v ∷ vs) [] ds a b = no_length (length vs) (sym a)
 edits_values (v ∷ vs) (t ∷ ts) [] a b = no_length (length vs) (sym b)
 edits_values (v ∷ vs) (t ∷ ts) (d ∷ ds) a b = ap (λ l. v ∷ l) (edits_values vs ts ds (less a) (less b))
+
+pub edits_times : (vs ts : List ℕ) (ds : List ℤ) → length ts ≡ length vs → length ds ≡ length vs → map time_of (edits vs ts ds) ≡ ts
+unfolding edits time_of
+edits_times [] [] ds a b = refl
+edits_times [] (t ∷ ts) ds a b = no_length (length ts) a
+edits_times (v ∷ vs) [] ds a b = no_length (length vs) (sym a)
+edits_times (v ∷ vs) (t ∷ ts) [] a b = no_length (length vs) (sym b)
+edits_times (v ∷ vs) (t ∷ ts) (d ∷ ds) a b = ap (λ l. t ∷ l) (edits_times vs ts ds (less a) (less b))
 
 pub edits-diffs : (vs ts : List ℕ) (ds : List ℤ) → length ts ≡ length vs → length ds ≡ length vs → map (λ (e : Edit). e.1) (edits vs ts ds) ≡ ds
 unfolding edits
@@ -55,10 +63,10 @@ edits-append (v ∷ vs) [] ds vs' ts' ds' a b = no_length (length vs) (sym a)
 edits-append (v ∷ vs) (t ∷ ts) [] vs' ts' ds' a b = no_length (length vs) (sym b)
 edits-append (v ∷ vs) (t ∷ ts) (d ∷ ds) vs' ts' ds' a b = ap (λ l. ((t, v), d) ∷ l) (edits-append vs ts ds vs' ts' ds' (less a) (less b))
 
-pub edits_of_lem : (es : List Edit) → edits (map value_of es) (map time_of es) (map (λ (e : Edit). e.1) es) ≡ es
+pub edits_of_columns : (es : List Edit) → edits (map value_of es) (map time_of es) (map (λ (e : Edit). e.1) es) ≡ es
 unfolding edits value_of time_of
-edits_of_lem [] = refl
-edits_of_lem (e ∷ es) = ap (λ l. e ∷ l) (edits_of_lem es)
+edits_of_columns [] = refl
+edits_of_columns (e ∷ es) = ap (λ l. e ∷ l) (edits_of_columns es)
 
 -- ---- columns of any length
 pub edits-length : (vs ts : List ℕ) (ds : List ℤ) → length (edits vs ts ds) ≤ length vs

@@ -1,7 +1,7 @@
 -- The pass over a segment that ascends by value, run of equal values by run.
 --
--- Passing: the runs before i are summed, and what they give stands before k. passing_start, pass_skip, pass_write, passing_end: the pass keeps that
--- here_v, here_d, bounds, run_asks: what a turn asks. passing_less: it moves on
+-- Passing: the runs before i are summed, and what they give stands before k. pass_skip, pass_write, passing_end: the pass keeps that
+-- bounds, run_asks: what a turn asks
 use Prim.Native.Nat.{ℕ, ◌+◌, ◌-◌, ◌<◌, ◌≤◌}
 use native.Mathlib.Omega.{arith}
 use mathlib.Core.Bool.{true, false}
@@ -19,7 +19,7 @@ use Rattle.rules.specs.Retire.{seen}
 use Rattle.diffs.specs.Diffs.{modest}
 use Rattle.backends.specs.Columns.{entries, Appended}
 use Rattle.backends.specs.Segments.{part}
-use Rattle.backends.proofs.Columns.{all_take, all_drop, Filling, filling_start, filling_is, filling_more, filling_end}
+use Rattle.backends.proofs.Columns.{all_take, all_drop, Filling, filling_is, filling_more, filling_end}
 use Rattle.backends.proofs.Segments.{part_length}
 use Rattle.moments.specs.Present.{edits, Shows}
 use Rattle.moments.proofs.Summing.{run, run_within, run_some}
@@ -36,17 +36,14 @@ pub record Passing (vs ts : List ℕ) (ds : List ℤ) (t at : ℕ) (sv₀ : List
   pub room : k + (length vs - i) ≤ length sv₀
   pub done : Filling sv₀ sd₀ at (left vs ts ds t 0) sv sd k (left vs ts ds t i)
 
-pub passing_start : {vs ts : List ℕ} {ds : List ℤ} {sv : List ℕ} {sd : List ℤ} {at : ℕ} (t : ℕ) → Shows vs ts ds sv sd at → Passing vs ts ds t at sv sd sv sd 0 at
-passing_start {vs} {ts} {ds} {sv} {sd} {at} t a = record { asks = a; within = omega arith; room = omega arith; done = filling_start sv sd at (left vs ts ds t 0) }
-
 module _ {vs ts : List ℕ} {ds : List ℤ} {t at : ℕ} {sv₀ : List ℕ} {sd₀ : List ℤ} {sv : List ℕ} {sd : List ℤ} {i k : ℕ} (m : Passing vs ts ds t at sv₀ sd₀ sv sd i k) (h : i < length vs) where
-  pub here_v : k < length sv
+  here_v : k < length sv
   here_v =
       let r : k + (length vs - i) ≤ length sv₀ = m.room in
       let s : length sv ≡ length sv₀ = m.done.values.same in
       omega arith
 
-  pub here_d : k < length sd
+  here_d : k < length sd
   here_d =
       let r : k + (length vs - i) ≤ length sv₀ = m.room in
       let s : length sd ≡ length sd₀ = m.done.diffs.same in
@@ -76,12 +73,6 @@ module _ {vs ts : List ℕ} {ds : List ℤ} {t at : ℕ} {sv₀ : List ℕ} {sd�
         let x : length (part i e ts) ≡ e - i = part_length i e ts (omega arith) b in
         let y : length (part i e ds) ≡ e - i = part_length i e ds (omega arith) c in
         (y ∙ sym x, (omega arith, all_take (e - i) (all_drop i m.asks.laid.small)))
-
-    pub passing_less : length vs - e < length vs - i
-    passing_less =
-        let a : i < e = bounds.0 in
-        let w : e ≤ length vs = bounds.1.0 in
-        omega arith
 
     dropped : {A : Type 0} (l : List A) → drop (run v (drop i vs)) (drop i l) ≡ drop e l
     dropped l = drop-drop (run v (drop i vs)) i l ∙ ap (λ n. drop n l) (sym q)

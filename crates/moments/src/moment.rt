@@ -9,7 +9,6 @@ ghost use Rattle.diffs.specs.Diffs.{modest};
 ghost use Rattle.backends.specs.Columns.{entries, Appended};
 ghost use Rattle.moments.specs.Present.{edits, Shows};
 
-use diffs::is_zero;
 use times::PackedTime;
 
 // Whether an entry's time is at or below t.
@@ -24,14 +23,7 @@ fn run_end(values: &[u64], from: usize, v: u64) -> usize
     requires { from ≤ length values.now }
     ensures { result ≡ from + length (front (λ x. eqb x v) (drop from values.now)) }
 {
-    let mut i = from;
-    while i < values.len() {
-        if values[i] != v {
-            return i;
-        }
-        i += 1;
-    }
-    i
+    from + values.iter().skip(from).take_while(|x| **x == v).count()
 }
 
 // The sum of the diffs at times at or below t.
@@ -39,18 +31,13 @@ fn sum_at(times: &[u64], diffs: &[i64], t: PackedTime) -> i64
     requires { (length diffs.now ≡ length times.now) × ((length times.now ≤ 8192) × All modest diffs.now) }
     ensures { result ≡ tally (λ u. below u t.0) (entries times.now diffs.now) }
 {
-    let mut s: i64 = 0;
-    let mut i = 0;
-    while i < times.len() {
-        if is_seen(times[i], t) {
-            let d = diffs[i];
-            s = s + d;
-            i += 1;
-        } else {
-            i += 1;
+    let mut sum = 0;
+    for (time, diff) in times.iter().zip(diffs) {
+        if is_seen(*time, t) {
+            sum += *diff;
         }
     }
-    s
+    sum
 }
 
 // Appends at `at` what is seen of the segment at t: each value's sum over the times at or below t, unless it is zero.
@@ -68,18 +55,17 @@ pub fn present(
 {
     let mut i = 0;
     let mut k = at;
+    // A turn passes a run of equal values, so the index goes by the length of the run.
     while i < values.len() {
         let v = values[i];
-        let e = run_end(values, i, v);
-        let s = sum_at(&times[i..e], &diffs[i..e], t);
-        if is_zero(s) {
-            i = e;
-        } else {
+        let end = run_end(values, i, v);
+        let sum = sum_at(&times[i..end], &diffs[i..end], t);
+        if sum != 0 {
             sv[k] = v;
-            sd[k] = s;
-            i = e;
+            sd[k] = sum;
             k += 1;
         }
+        i = end;
     }
     k
 }

@@ -1,15 +1,16 @@
 -- Tiles in result memory, and the tiles of times.
 --
 -- numbers_short: the tiles' numbers are at most 65 for each held time
--- few_fitting, few_room, few_beside: what publish_tiles asks fits tile_descriptions and place_times. tiles-told: what publish_tiles says
+-- few_fitting: what publish_tiles asks fits tile_descriptions. tiles-told: what publish_tiles says
 use Prim.Native.Nat.{ℕ, suc, ◌+◌, ◌*◌, ◌-◌, ◌≤◌}
 use native.Mathlib.Omega.{arith}
 use native.Mathlib.Nat.{sub-zero}
 use mathlib.Core.Bool.{true, ◌&&◌}
-use mathlib.Core.List.{List, [], ◌∷◌, map}
+use mathlib.Core.List.{List, [], ◌∷◌, ◌++◌, map}
 use mathlib.Core.Path.{◌≡◌, sym, ◌∙◌, ap}
 use lib.Dec.{leb}
-use lib.ListN.{length, take, length-append, length-map}
+use lib.ListN.{length, take, drop, length-append, length-map}
+use lib.Seq.{length-take-le, take_at}
 use borrow.Author.Tests.{le-leb}
 use borrow.Rule.Slice.PartMut.{put_mid, mid_of, mid_len}
 use Rattle.grid.specs.Lists.{flat, same}
@@ -24,7 +25,7 @@ use Rattle.tiles.proofs.Writing.{tile-length}
 use Rattle.tiles.proofs.Describing.{described_tile}
 use Rattle.placing.specs.Parts.{tiles_at, frontier_at}
 use Rattle.placing.specs.Placed.{Few, TilesTold}
-use Rattle.placing.proofs.Parts.{part_front, first-length, first_part}
+use Rattle.placing.proofs.Parts.{part_front}
 
 pub numbers_short : (upper lower held : List ℕ) → length lower ≤ most_bound → length held + length upper ≤ suc most_bound → length (flat tile_numbers (tiles lower upper held)) ≤ length held * tile_size
 unfolding tiles
@@ -47,15 +48,9 @@ module _ {lower upper held times : List ℕ} {n : ℕ} {out res : List ℕ} (f :
       (le-leb (most_times * tile_size) a h))
       (le-leb most_times b k)
 
-  pub few_room : frontier_at ≤ length res
-  few_room = omega (arith, f.wide_numbers)
-
-  pub few_beside : length (take (n - 0) out) ≡ length (take (n - 0) times)
-  few_beside = first-length out f.room_out ∙ sym (first-length times f.in_times_lem)
-
   pub tiles-told : {part places places' beside : List ℕ} {r : ℕ} → most_times ≤ length places
-      → Described lower upper held (mid_of tiles_at (frontier_at - tiles_at) res) part places places' r → beside ≡ map (place_beside held places' r) (take (n - 0) times)
-      → TilesTold lower upper held (take n times) (take n (put_mid 0 (n - 0) out beside)) res (put_mid tiles_at (frontier_at - tiles_at) res part) r
+      → Described lower upper held (mid_of tiles_at (frontier_at - tiles_at) res) part places places' r → beside ≡ map (place_beside held places' r) (take n times)
+      → TilesTold lower upper held (take n times) (take n (beside ++ drop n out)) res (put_mid tiles_at (frontier_at - tiles_at) res part) r
   tiles-told {part} {places} {places'} {beside} {r} k d e =
       let ts = tiles lower upper held in
       let w = f.wide_numbers in
@@ -65,8 +60,8 @@ module _ {lower upper held times : List ℕ} {n : ℕ} {out res : List ℕ} (f :
       record {
         counted = (d.tiled fit).0;
         places_are =
-            first_part out beside (ap length e ∙ length-map (take (n - 0) times) (place_beside held places' r) ∙ first-length times f.in_times_lem)
+            take_at beside (drop n out) n (ap length e ∙ length-map (take n times) (place_beside held places' r) ∙ length-take-le n times f.in_times)
             ∙ e
-            ∙ (λ i. map (λ t. described_tile t fit d i) (take (sub-zero n i) times));
+            ∙ (λ i. map (λ t. described_tile t fit d i) (take n times));
         tiles_are = part_front res tiles_at (flat tile_numbers ts) frontier_at (omega arith) (omega arith) ((d.tiled fit).1.0 ∙ laid_fits (flat tile_numbers ts) _ (omega arith));
       }

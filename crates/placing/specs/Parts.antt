@@ -3,12 +3,11 @@
 -- laid_at at xs s: xs over s from the place `at` on; what lies before and past it stays as it was
 -- column_at i: where the column i starts. tiles_at, frontier_at: where tiles and frontier start
 -- fixes_laid, lists_laid: corrections laid into their four columns; pending entries and a frontier into theirs
--- Wide: how long result memory is. Zeros: it is all zero. Next: what next_frontier says
+-- Wide: how long result memory is. Zeros: it is all zero.
 -- emptied, emptied_diffs: slices, all zero
 use Rattle.std.specs.Prelude.{ℕ, ◌+◌, ◌*◌, ◌≤◌, min, List, ◌++◌, map, ◌≡◌, ℤ, pos, length, take, drop, replicate}
 use Rattle.grid.specs.Records.{most_records}
-use Rattle.grid.specs.Frontiers.{most_times, minimal}
-use Rattle.grid.specs.Slices.{laid}
+use Rattle.grid.specs.Frontiers.{most_times}
 use Rattle.rules.specs.Call.{Fix}
 use Rattle.rules.specs.Memory.{tile_size, numbers_size}
 
@@ -37,11 +36,6 @@ lists_laid keys times frontier s = laid_at frontier_at frontier (laid_at (column
 pub record Wide (res : List ℕ) (rd : List ℤ) : Type 0 where
   pub wide_numbers : numbers_size ≤ length res
   pub wide_diffs : most_records ≤ length rd
-
-pub record Next (ts out out' : List ℕ) (r : ℕ) : Type 0 where
-  pub counted : r ≡ min (length (minimal ts)) (length out + 1)
-  pub holds : out' ≡ laid (minimal ts) out
-  pub front : r ≤ length out → take r out' ≡ minimal ts
 
 pub record Zeros (res res' : List ℕ) (rd rd' : List ℤ) : Type 0 where
   pub zero-numbers : res' ≡ replicate (length res) 0

@@ -13,7 +13,7 @@ pub record Few (lower upper held times : List ℕ) (n : ℕ) (out res : List ℕ
   pub few_lower : length lower ≤ most_times
   pub few_upper : length upper ≤ most_times
   pub few_held : length held ≤ most_times
-  pub in_times_lem : n ≤ length times
+  pub in_times : n ≤ length times
   pub room_out : n ≤ length out
   pub wide_numbers : numbers_size ≤ length res
 

@@ -1,41 +1,32 @@
 // Memory, cleared.
 ghost use Rattle.std.specs.Prelude.{[], ◌∷◌, ◌≡◌};
+ghost use Rattle.requests.specs.Memory.{SameResults, SameWork};
 ghost use Rattle.placing.specs.Parts.{Zeros, emptied, emptied_diffs};
 
-use slices::{clear, clear_diffs};
-
-fn clear_three(a: &mut [u64], b: &mut [u64], c: &mut [u64])
-    ensures { a.new ∷ b.new ∷ c.new ∷ [] ≡ emptied (a.old ∷ b.old ∷ c.old ∷ []) }
-{
-    clear(a);
-    clear(b);
-    clear(c);
-}
+use requests::{ResultMemory, WorkMemory};
+use slices::clear;
 
 // Result memory, all zero.
-pub fn clear_results(res: &mut [u64], rd: &mut [i64])
-    ensures { Zeros res.old res.new rd.old rd.new }
+pub fn clear_results(r: &mut ResultMemory<'_>)
+    ensures zeros { Zeros r.old.numbers.now r.new.numbers.now r.old.diffs.now r.new.diffs.now }
+    ensures same { SameResults r.old r.new }
 {
-    clear(res);
-    clear_diffs(rd);
+    clear(r.numbers);
+    clear(r.diffs);
 }
 
 // Work memory: six slices of numbers and two of diffs.
-pub fn clear_work(
-    a: &mut [u64],
-    b: &mut [u64],
-    c: &mut [u64],
-    d: &mut [u64],
-    e: &mut [u64],
-    f: &mut [u64],
-    g: &mut [i64],
-    h: &mut [i64],
-)
-    ensures f_after { a.new ∷ b.new ∷ c.new ∷ d.new ∷ e.new ∷ f.new ∷ [] ≡ emptied (a.old ∷ b.old ∷ c.old ∷ d.old ∷ e.old ∷ f.old ∷ []) }
-    ensures h_after { g.new ∷ h.new ∷ [] ≡ emptied_diffs (g.old ∷ h.old ∷ []) }
+pub fn clear_work(moments: &mut [u64], w: &mut WorkMemory<'_>)
+    ensures numbers { moments.new ∷ w.new.keys.now ∷ w.new.values.now ∷ w.new.times.now ∷ w.new.out_values.now ∷ w.new.out_times.now ∷ [] ≡ emptied (moments.old ∷ w.old.keys.now ∷ w.old.values.now ∷ w.old.times.now ∷ w.old.out_values.now ∷ w.old.out_times.now ∷ []) }
+    ensures diffs { w.new.diffs.now ∷ w.new.out_diffs.now ∷ [] ≡ emptied_diffs (w.old.diffs.now ∷ w.old.out_diffs.now ∷ []) }
+    ensures same { SameWork w.old w.new }
 {
-    clear_three(a, b, c);
-    clear_three(d, e, f);
-    clear_diffs(g);
-    clear_diffs(h);
+    clear(moments);
+    clear(w.keys);
+    clear(w.values);
+    clear(w.times);
+    clear(w.out_values);
+    clear(w.out_times);
+    clear(w.diffs);
+    clear(w.out_diffs);
 }

@@ -9,7 +9,7 @@ mod place;
 
 pub use clear::{clear_results, clear_work};
 pub use columns::gather_column;
-pub use lists::{next_frontier, publish_lists};
+pub use lists::publish_lists;
 pub use memory::{
     DIFFS_SIZE, FIX_KEYS, FIX_TILES, FIX_TIMES, FIX_VALUES, FRONTIER, NUMBERS_SIZE, PENDING_KEYS,
     PENDING_TIMES, TILES,

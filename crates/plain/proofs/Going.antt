@@ -1,20 +1,16 @@
 -- The loop over a key's rounds.
 --
--- Going: the first j rounds are settled, and `rest` are still to come, or the corrections are too large already
--- going_start, going_more, going_end: the loop keeps that. going_kept: it keeps all lengths
--- going_in, going_place, going_mark, going_fits, going_less: the places that a turn reads and writes. going_asks: what a round asks
-use Prim.Native.Nat.{ℕ, ◌+◌, ◌-◌, ◌*◌, ◌<◌, ◌≤◌, ◌^◌}
+-- Going: the first j rounds are settled, and `rest` are still to come
+-- going_start, going_more, going_end: the loop keeps that. going_over: a round whose corrections are too large.
+-- going_mark: the place that a turn marks. going_asks: what a round asks
+use Prim.Native.Nat.{ℕ, ◌+◌, ◌<◌, ◌≤◌}
 use native.Mathlib.Omega.{arith}
-use mathlib.Core.Bool.{Bool, true, false, ◌&&◌, not}
+use mathlib.Core.Bool.{Bool}
 use mathlib.Core.Path.{◌≡◌, refl, sym, ◌∙◌, ap, subst}
 use mathlib.Core.List.{List, [], ◌∷◌, ◌++◌}
-use lib.Dec.{ltb}
 use lib.IntN.{ℤ}
 use lib.ListN.{length, take, drop, get_or, drop_of_length-le}
-use borrow.Author.Tests.{ltb-true, ltb-false, not-true}
-use Rattle.progress.proofs.Going.{goes_now}
 use Rattle.grid.specs.Records.{most_records}
-use Rattle.grid.proofs.Tests.{and_l, and_r}
 use Rattle.grid.proofs.Lists.{all_of}
 use Rattle.grid.proofs.Loops.{drop_more}
 use Rattle.rules.specs.Histories.{Edit}
@@ -26,9 +22,9 @@ use Rattle.moments.proofs.Orderly.{orderly_more}
 use Rattle.rounds.specs.Merges.{by_value, merged}
 use Rattle.slots.proofs.Alike.{seen_refl, seen_sym, sorted_seen, settle-alike}
 use Rattle.marks.specs.Marks.{marked_at}
-use Rattle.fixing.specs.Settle.{LentFixes, LentSums, KeySettled}
-use Rattle.fixing.proofs.Left.{Left, left_start, left_more, left_end, left_marks}
-use Rattle.plain.specs.Plain.{TurnAsks, TurnDone, KeyAsks}
+use Rattle.fixing.specs.Settle.{LentFixes, LentSums, KeySettled, KeyOver}
+use Rattle.fixing.proofs.Left.{Left, left_start, left_more, left_over, left_end, left_marks}
+use Rattle.plain.specs.Plain.{TurnAsks, TurnDone, TurnOver, KeyAsks}
 use Rattle.plain.specs.declared.Turn.{Turn}
 
 settle_none : (mode : ℕ) (i o : List Edit) → settle mode i o [] ≡ []
@@ -45,7 +41,7 @@ unfolding merged
 settle-merged mode i o t c ts = settle-alike mode ts (all_of (seen_refl i) ts) (all_of (λ q. seen_sym (sorted_seen by_value (o ++ dated t c) q)) ts)
 
 pub record Going (most mode key : ℕ) (moments vs ts : List ℕ) (ds : List ℤ) (n : ℕ) (uv₀ ut₀ : List ℕ) (ud₀ : List ℤ) (iv₀ : List ℕ) (id₀ : List ℤ) (ov₀ : List ℕ) (od₀ : List ℤ) (cv₀ : List ℕ) (cd₀ : List ℤ) (marks₀ fk₀ fv₀ ft₀ : List ℕ) (fd₀ : List ℤ) (fixes : ℕ)
-    (uv ut : List ℕ) (ud : List ℤ) (iv : List ℕ) (id : List ℤ) (ov : List ℕ) (od : List ℤ) (cv : List ℕ) (cd : List ℤ) (marks fk fv ft : List ℕ) (fd : List ℤ) (j u k : ℕ) (large : Bool) : Type 0 where
+    (uv ut : List ℕ) (ud : List ℤ) (iv : List ℕ) (id : List ℤ) (ov : List ℕ) (od : List ℤ) (cv : List ℕ) (cd : List ℤ) (marks fk fv ft : List ℕ) (fd : List ℤ) (j u k : ℕ) : Type 0 where
   pub asks : KeyAsks most moments vs ts ds n uv₀ ut₀ ud₀ iv₀ id₀ ov₀ od₀ cv₀ cd₀ marks₀ fk₀ fv₀ ft₀ fd₀ fixes
   pub long_uv : length uv ≡ most + most
   pub long_ut : length ut ≡ most + most
@@ -53,14 +49,14 @@ pub record Going (most mode key : ℕ) (moments vs ts : List ℕ) (ds : List ℤ
   pub sums : LentSums most iv ov id od cv cd
   pub lent : LentFixes most fk fv ft fd
   pub rest : List Round
-  pub rest_is : large ≡ false → rest ≡ settle mode (edits vs ts ds) (take u (edits uv ut ud)) (drop j moments)
-  pub left : Left most key (settle mode (edits vs ts ds) (take n (edits uv₀ ut₀ ud₀)) moments) rest j fixes k large marks₀ marks fk₀ fv₀ ft₀ fd₀ fk fv ft fd
-  pub within : large ≡ false → u ≤ most + k
-  pub orderly : large ≡ false → Orderly (most_records + k) (take u (edits uv ut ud))
+  pub rest_is : rest ≡ settle mode (edits vs ts ds) (take u (edits uv ut ud)) (drop j moments)
+  pub left : Left most key (settle mode (edits vs ts ds) (take n (edits uv₀ ut₀ ud₀)) moments) rest j fixes k marks₀ marks fk₀ fv₀ ft₀ fd₀ fk fv ft fd
+  pub within : u ≤ most + k
+  pub orderly : Orderly (most_records + k) (take u (edits uv ut ud))
 
 pub going_start : {most : ℕ} (mode key : ℕ) {moments vs ts : List ℕ} {ds : List ℤ} {n : ℕ} {uv ut : List ℕ} {ud : List ℤ} {iv : List ℕ} {id : List ℤ} {ov : List ℕ} {od : List ℤ} {cv : List ℕ} {cd : List ℤ} {marks fk fv ft : List ℕ} {fd : List ℤ} {fixes : ℕ}
     → KeyAsks most moments vs ts ds n uv ut ud iv id ov od cv cd marks fk fv ft fd fixes
-    → Going most mode key moments vs ts ds n uv ut ud iv id ov od cv cd marks fk fv ft fd fixes uv ut ud iv id ov od cv cd marks fk fv ft fd 0 n fixes false
+    → Going most mode key moments vs ts ds n uv ut ud iv id ov od cv cd marks fk fv ft fd fixes uv ut ud iv id ov od cv cd marks fk fv ft fd 0 n fixes
 going_start {most} mode key {moments} {vs} {ts} {ds} {n} {uv} {ut} {ud} {fixes = fixes} x = record {
   asks = x;
   long_uv = x.memory.long_uv;
@@ -69,15 +65,15 @@ going_start {most} mode key {moments} {vs} {ts} {ds} {n} {uv} {ut} {ud} {fixes =
   sums = x.memory.sums;
   lent = x.memory.lent;
   rest = settle mode (edits vs ts ds) (take n (edits uv ut ud)) moments;
-  rest_is = λ h. refl;
+  rest_is = refl;
   left = left_start x.memory.fits;
-  within = λ h. (let w : n ≤ most = x.within in omega arith);
-  orderly = λ h. orderly_more (omega arith) x.output;
+  within = omega (arith, x.within);
+  orderly = orderly_more (omega arith) x.output;
 }
 
 module _ {most mode key : ℕ} {moments vs ts : List ℕ} {ds : List ℤ} {n : ℕ} {uv₀ ut₀ : List ℕ} {ud₀ : List ℤ} {iv₀ : List ℕ} {id₀ : List ℤ} {ov₀ : List ℕ} {od₀ : List ℤ} {cv₀ : List ℕ} {cd₀ : List ℤ} {marks₀ fk₀ fv₀ ft₀ : List ℕ} {fd₀ : List ℤ} {fixes : ℕ}
-    {uv ut : List ℕ} {ud : List ℤ} {iv : List ℕ} {id : List ℤ} {ov : List ℕ} {od : List ℤ} {cv : List ℕ} {cd : List ℤ} {marks fk fv ft : List ℕ} {fd : List ℤ} {j u k : ℕ} {large : Bool}
-    (g : Going most mode key moments vs ts ds n uv₀ ut₀ ud₀ iv₀ id₀ ov₀ od₀ cv₀ cd₀ marks₀ fk₀ fv₀ ft₀ fd₀ fixes uv ut ud iv id ov od cv cd marks fk fv ft fd j u k large) where
+    {uv ut : List ℕ} {ud : List ℤ} {iv : List ℕ} {id : List ℤ} {ov : List ℕ} {od : List ℤ} {cv : List ℕ} {cd : List ℤ} {marks fk fv ft : List ℕ} {fd : List ℤ} {j u k : ℕ}
+    (g : Going most mode key moments vs ts ds n uv₀ ut₀ ud₀ iv₀ id₀ ov₀ od₀ cv₀ cd₀ marks₀ fk₀ fv₀ ft₀ fd₀ fixes uv ut ud iv id ov od cv cd marks fk fv ft fd j u k) where
   abbrev input : List Edit
   input = edits vs ts ds
 
@@ -87,29 +83,9 @@ module _ {most mode key : ℕ} {moments vs ts : List ℕ} {ds : List ℤ} {n : �
   abbrev all : List Round
   all = settle mode input (take n (edits uv₀ ut₀ ud₀)) moments
 
-  module _ (e : (not large && ltb j (length moments)) ≡ true) where
-    pub going_in : j < length moments
-    going_in = ltb-true j (length moments) (and_r (not large) (ltb j (length moments)) e)
-
+  module _ (e : j < length moments) where
     pub going_mark : j < length marks
-    going_mark =
-        let h : j < length moments = going_in in
-        let f : length moments ≤ 1024 = g.asks.few in
-        let m : length marks₀ ≡ 1024 = g.asks.memory.long_marks in
-        let l : length marks ≡ length marks₀ = g.left.long_marks in
-        omega arith
-
-    pub going_place : j * 8 < 2 ^ 64
-    going_place = let h : j < length moments = going_in in let f : length moments ≤ 1024 = g.asks.few in omega arith
-
-    pub going_fits : j + 1 < 2 ^ 64
-    going_fits = let h : j < length moments = going_in in let f : length moments ≤ 1024 = g.asks.few in omega arith
-
-    pub going_less : length moments - (j + 1) < length moments - j
-    going_less = let h : j < length moments = going_in in omega arith
-
-    open_yet : large ≡ false
-    open_yet = not-true large (and_l (not large) (ltb j (length moments)) e)
+    going_mark = omega (arith, g.asks.few, g.asks.memory.long_marks, g.left.long_marks)
 
     room : length fk ≡ most
     room = g.lent.long_k
@@ -123,11 +99,11 @@ module _ {most mode key : ℕ} {moments vs ts : List ℕ} {ds : List ℤ} {n : �
       long_uv = g.long_uv;
       long_ut = g.long_ut;
       long_ud = g.long_ud;
-      within = g.within open_yet;
-      output = g.orderly open_yet;
+      within = g.within;
+      output = g.orderly;
       sums = g.sums;
       lent = g.lent;
-      fits = g.left.fits open_yet;
+      fits = g.left.fits;
       room_few = g.asks.memory.room_few;
     })
 
@@ -141,12 +117,13 @@ module _ {most mode key : ℕ} {moments vs ts : List ℕ} {ds : List ℤ} {n : �
     later = settle mode input (output ++ dated t x.fixes) (drop (j + 1) moments)
 
     split : g.rest ≡ x ∷ later
-    split = g.rest_is open_yet ∙ ap (settle mode input output) (drop_more moments j 0 going_in) ∙ settle-next mode input output t (drop (j + 1) moments)
+    split = g.rest_is ∙ ap (settle mode input output) (drop_more moments j 0 e) ∙ settle-next mode input output t (drop (j + 1) moments)
 
-    left_now : Left most key all (x ∷ later) j fixes k false marks₀ marks fk₀ fv₀ ft₀ fd₀ fk fv ft fd
-    left_now =
-        subst (λ (l : List Round). Left most key all l j fixes k false marks₀ marks fk₀ fv₀ ft₀ fd₀ fk fv ft fd) split
-        (subst (λ (b : Bool). Left most key all g.rest j fixes k b marks₀ marks fk₀ fv₀ ft₀ fd₀ fk fv ft fd) open_yet g.left)
+    left_now : Left most key all (x ∷ later) j fixes k marks₀ marks fk₀ fv₀ ft₀ fd₀ fk fv ft fd
+    left_now = subst (λ (l : List Round). Left most key all l j fixes k marks₀ marks fk₀ fv₀ ft₀ fd₀ fk fv ft fd) split g.left
+
+    pub going_over : TurnOver (length fk) mode key t input output k → KeyOver most mode key input (take n (edits uv₀ ut₀ ud₀)) moments fixes
+    going_over o = left_over left_now (subst (λ (w : ℕ). TurnOver w mode key t input output k) room o)
 
     module _ {r : Turn} {uv' ut' : List ℕ} {ud' : List ℤ} {fk' fv' ft' : List ℕ} {fd' : List ℤ} (d₀ : TurnDone (length fk) mode key t input output u k r uv' ut' ud' fk fv ft fd fk' fv' ft' fd') where
       d : TurnDone most mode key t input output u k r uv' ut' ud' fk fv ft fd fk' fv' ft' fd'
@@ -155,7 +132,7 @@ module _ {most mode key : ℕ} {moments vs ts : List ℕ} {ds : List ℤ} {n : �
       module _ {marks' : List ℕ} (m : marks' ≡ marked_at r.crossed j marks) {iv' : List ℕ} {id' : List ℤ} {ov' : List ℕ} {od' : List ℤ} {cv' : List ℕ} {cd' : List ℤ}
           (luv : length uv' ≡ length uv) (lut : length ut' ≡ length ut) (lud : length ud' ≡ length ud) (liv : length iv' ≡ length iv) (lid : length id' ≡ length id) (lov : length ov' ≡ length ov) (lod : length od' ≡ length od)
           (lcv : length cv' ≡ length cv) (lcd : length cd' ≡ length cd) (lfk : length fk' ≡ length fk) (lfv : length fv' ≡ length fv) (lft : length ft' ≡ length ft) (lfd : length fd' ≡ length fd) where
-        pub going_more : Going most mode key moments vs ts ds n uv₀ ut₀ ud₀ iv₀ id₀ ov₀ od₀ cv₀ cd₀ marks₀ fk₀ fv₀ ft₀ fd₀ fixes uv' ut' ud' iv' id' ov' od' cv' cd' marks' fk' fv' ft' fd' (j + 1) r.output r.fixes r.large
+        pub going_more : Going most mode key moments vs ts ds n uv₀ ut₀ ud₀ iv₀ id₀ ov₀ od₀ cv₀ cd₀ marks₀ fk₀ fv₀ ft₀ fd₀ fixes uv' ut' ud' iv' id' ov' od' cv' cd' marks' fk' fv' ft' fd' (j + 1) r.output r.fixes
         going_more = record {
           asks = g.asks;
           long_uv = luv ∙ g.long_uv;
@@ -164,22 +141,15 @@ module _ {most mode key : ℕ} {moments vs ts : List ℕ} {ds : List ℤ} {n : �
           sums = record { long_iv = liv ∙ g.sums.long_iv; long_ov = lov ∙ g.sums.long_ov; long_id = lid ∙ g.sums.long_id; long_od = lod ∙ g.sums.long_od; long_cv = lcv ∙ g.sums.long_cv; long_cd = lcd ∙ g.sums.long_cd };
           lent = record { long_k = lfk ∙ g.lent.long_k; long_v = lfv ∙ g.lent.long_v; long_t = lft ∙ g.lent.long_t; long_d = lfd ∙ g.lent.long_d };
           rest = later;
-          rest_is = λ h. settle-merged mode input output t x.fixes (drop (j + 1) moments) ∙ ap (λ (es : List Edit). settle mode input es (drop (j + 1) moments)) (sym (d.output_is h));
+          rest_is = settle-merged mode input output t x.fixes (drop (j + 1) moments) ∙ ap (λ (es : List Edit). settle mode input es (drop (j + 1) moments)) (sym d.output_is);
           left = left_more left_now d.listed going_mark (m ∙ ap (λ (b : Bool). marked_at b j marks) d.crossed_is) refl;
           within = d.within;
           orderly = d.orderly;
         }
 
-  pub going_kept : (length uv ≡ length uv₀) × ((length ut ≡ length ut₀) × ((length ud ≡ length ud₀) × ((length iv ≡ length iv₀) × ((length id ≡ length id₀) × ((length ov ≡ length ov₀) × ((length od ≡ length od₀) × ((length cv ≡ length cv₀) × ((length cd ≡ length cd₀) × ((length marks ≡ length marks₀) × ((length fk ≡ length fk₀) × ((length fv ≡ length fv₀) × ((length ft ≡ length ft₀) × (length fd ≡ length fd₀)))))))))))))
-  going_kept =
-      let b = g.asks.memory in
-      (g.long_uv ∙ sym b.long_uv, (g.long_ut ∙ sym b.long_ut, (g.long_ud ∙ sym b.long_ud, (g.sums.long_iv ∙ sym b.sums.long_iv, (g.sums.long_id ∙ sym b.sums.long_id, (g.sums.long_ov ∙ sym b.sums.long_ov, (g.sums.long_od ∙ sym b.sums.long_od, (g.sums.long_cv ∙ sym b.sums.long_cv, (g.sums.long_cd ∙ sym b.sums.long_cd, (g.left.long_marks, (g.lent.long_k ∙ sym b.lent.long_k, (g.lent.long_v ∙ sym b.lent.long_v, (g.lent.long_t ∙ sym b.lent.long_t, g.lent.long_d ∙ sym b.lent.long_d)))))))))))))
+  module _ (e : length moments ≤ j) where
+    none_left : g.rest ≡ []
+    none_left = g.rest_is ∙ ap (settle mode input output) (drop_of_length-le moments {i = j} e) ∙ settle_none mode input output
 
-  module _ (e : (not large && ltb j (length moments)) ≡ false) where
-    none_left : large ≡ false → g.rest ≡ []
-    none_left h =
-        let k : length moments ≤ j = ltb-false j (length moments) (goes_now large (ltb j (length moments)) h ∙ e) in
-        g.rest_is h ∙ ap (settle mode input output) (drop_of_length-le moments {i = j} k) ∙ settle_none mode input output
-
-    pub going_end : KeySettled most mode key input (take n (edits uv₀ ut₀ ud₀)) moments fixes (record { fixes = k; large = large }) marks₀ marks fk₀ fv₀ ft₀ fd₀ fk fv ft fd
+    pub going_end : KeySettled most mode key input (take n (edits uv₀ ut₀ ud₀)) moments fixes k marks₀ marks fk₀ fv₀ ft₀ fd₀ fk fv ft fd
     going_end = record { listed = left_end g.left none_left; marks_are = left_marks g.left none_left }

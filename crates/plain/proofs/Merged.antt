@@ -26,7 +26,7 @@ use Rattle.backends.specs.Columns.{entries, values_of, Column}
 use Rattle.backends.proofs.Columns.{length-entries}
 use Rattle.moments.specs.Present.{edits}
 use Rattle.moments.specs.Window.{Orderly}
-use Rattle.moments.proofs.Columns.{edits_values, edits-append, edits_of_lem, front_edits}
+use Rattle.moments.proofs.Columns.{edits_values, edits-append, edits_of_columns, front_edits}
 use Rattle.rounds.specs.Merges.{by_value, merged, Merges, Rows}
 use Rattle.rounds.proofs.Mixing.{sorted_of, merged_sorted, merged-mass}
 use Rattle.plain.specs.Plain.{MergesBack, MergedBack}
@@ -57,7 +57,7 @@ merged_orderly {n} {m} o t c k h a = record {
 edits-over : (w : List Edit) (vs ts : List ℕ) (ds : List ℤ) → edits (map value_of w ++ vs) (map time_of w ++ ts) (map (λ (e : Edit). e.1) w ++ ds) ≡ w ++ edits vs ts ds
 edits-over w vs ts ds =
     edits-append (map value_of w) (map time_of w) (map (λ (e : Edit). e.1) w) vs ts ds (length-map w time_of ∙ sym (length-map w value_of)) (length-map w (λ (e : Edit). e.1) ∙ sym (length-map w value_of))
-    ∙ ap (λ l. l ++ edits vs ts ds) (edits_of_lem w)
+    ∙ ap (λ l. l ++ edits vs ts ds) (edits_of_columns w)
 
 front : {A : Type 0} {before new after : List A} {r : ℕ} → Column before 0 new after r → take (r - 0) after ≡ new
 front {after = after} {r} c = let e : r - 0 ≡ r = omega arith in ap (λ i. take i after) e ∙ c.front

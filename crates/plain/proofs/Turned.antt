@@ -13,7 +13,6 @@ use lib.IntN.{ℤ, nat_abs}
 use lib.ListN.{length, take, length-map, length-take}
 use lib.Seq.{length-take-le}
 use Rattle.grid.specs.Records.{Row, most_records}
-use Rattle.grid.proofs.Tests.{clash}
 use Rattle.grid.proofs.Lists.{All, all_imp, all_map}
 use Rattle.grid.proofs.Sort.{Sorted}
 use Rattle.grid.proofs.Sizes.{mass, mass_each}
@@ -34,10 +33,10 @@ use Rattle.rounds.specs.Merges.{merged}
 use Rattle.slots.specs.Slots.{rows_in, rows_too_large}
 use Rattle.slots.proofs.Large.{not_large}
 use Rattle.fixing.specs.Fixes.{fix_rows}
-use Rattle.fixing.specs.Settle.{Listed, Fixes, FixedAt}
+use Rattle.fixing.specs.Settle.{Listed, Fixes, FixedAt, OverAt}
 use Rattle.fixing.specs.declared.Fixed.{Fixed}
 use Rattle.fixing.proofs.Corrected.{held_values, held_diffs, held_entries, rows_fixed, rows-length, fixes_fit, fixes_small}
-use Rattle.plain.specs.Plain.{TurnAsks, TurnDone, MergesBack, MergedBack}
+use Rattle.plain.specs.Plain.{TurnAsks, TurnDone, TurnOver, MergesBack, MergedBack}
 use Rattle.plain.proofs.Merged.{canon_sorted, merged_none, merged_orderly}
 
 -- ---- a round
@@ -147,7 +146,7 @@ module _ {most : ℕ} {vs ts : List ℕ} {ds : List ℤ} {n : ℕ} {uv ut : List
         omega arith
 
     -- ---- nothing is seen
-    pub turn_skips : a + b ≡ 0 → TurnDone most mode k t input output n fixes (record { output = n; crossed = false; fixes = fixes; large = false }) uv ut ud fk fv ft fd fk fv ft fd
+    pub turn_skips : a + b ≡ 0 → TurnDone most mode k t input output n fixes (record { output = n; crossed = false; fixes = fixes }) uv ut ud fk fv ft fd fk fv ft fd
     turn_skips z =
         let e : a ≡ length I = count_i in
         let f : b ≡ length O = count_o in
@@ -156,9 +155,9 @@ module _ {most : ℕ} {vs ts : List ℕ} {ds : List ℤ} {n : ℕ} {uv ut : List
           crossed_is = sym (ap (λ (y : Round). y.crossed) r);
           listed = subst (λ (R : List Row). Listed most R fixes false fixes fk fv ft fd fk fv ft fd) (sym (ap (rows_in k) r ∙ sym (rows_fixed k t false []) ∙ no_rows k t))
               (record { large_is = sym (not_large fixes x.fits); fixes_are = λ h. omega arith; rows_are = λ h. sym (append-nil _) });
-          output_is = λ h. sym (ap (λ (y : Round). merged output t y.fixes) r ∙ merged_none t output orderly);
-          within = λ h. x.within;
-          orderly = λ h. x.output;
+          output_is = sym (ap (λ (y : Round). merged output t y.fixes) r ∙ merged_none t output orderly);
+          within = x.within;
+          orderly = x.output;
         }
 
     -- ---- the correction
@@ -191,32 +190,33 @@ module _ {most : ℕ} {vs ts : List ℕ} {ds : List ℤ} {n : ℕ} {uv ut : List
           few = x.room_few;
         }
 
-    module _ (some : a + b ≡ 0 → ⊥) {f : Fixed} {cv' : List ℕ} {cd' : List ℤ} {fk' fv' ft' : List ℕ} {fd' : List ℤ}
-        (d₀ : FixedAt most k t (correction mode (entries (take (a - 0) iv') (take (a - 0) id')) (entries (take (b - 0) ov') (take (b - 0) od'))) cv cd fixes f cv' cd' fk fv ft fd fk' fv' ft' fd') where
+    module _ (some : a + b ≡ 0 → ⊥) where
       abbrev C : Sums
       C = correction mode I O
 
-      d : FixedAt most k t C cv cd fixes f cv' cd' fk fv ft fd fk' fv' ft' fd'
-      d = subst (λ (c : Sums). FixedAt most k t c cv cd fixes f cv' cd' fk fv ft fd fk' fv' ft' fd') (λ z. correction mode (held_entries p z) (held_entries q z)) d₀
+      given : correction mode (entries (take (a - 0) iv') (take (a - 0) id')) (entries (take (b - 0) ov') (take (b - 0) od')) ≡ C
+      given = λ z. correction mode (held_entries p z) (held_entries q z)
 
       round_is : round_at mode input output t ≡ record { time = t; crossed = true; fixes = C }
       round_is = round_crosses mode t input output (some_cross I O (λ z. some (let e : a ≡ length I = count_i in let g : b ≡ length O = count_o in omega arith)))
 
-      listed_is : Listed most (rows_in k (round_at mode input output t)) fixes f.large f.fixes fk fv ft fd fk' fv' ft' fd'
-      listed_is = subst (λ (R : List Row). Listed most R fixes f.large f.fixes fk fv ft fd fk' fv' ft' fd') (rows_fixed k t true C ∙ ap (rows_in k) (sym round_is)) d.listed
+      rows_are : fix_rows k t C ≡ rows_in k (round_at mode input output t)
+      rows_are = rows_fixed k t true C ∙ ap (rows_in k) (sym round_is)
 
-      pub turn-over : f.large ≡ true → TurnDone most mode k t input output n fixes (record { output = n; crossed = true; fixes = fixes; large = true }) uv ut ud fk fv ft fd fk' fv' ft' fd'
-      turn-over h = record {
-        crossed_is = sym (ap (λ (y : Round). y.crossed) round_is);
-        listed = record { large_is = sym h ∙ listed_is.large_is; fixes_are = λ e. clash true refl e; rows_are = λ e. clash true refl e };
-        output_is = λ e. clash true refl e;
-        within = λ e. clash true refl e;
-        orderly = λ e. clash true refl e;
-      }
+      pub turn-over : {cv' : List ℕ} {cd' : List ℤ} → OverAt most k t (correction mode (entries (take (a - 0) iv') (take (a - 0) id')) (entries (take (b - 0) ov') (take (b - 0) od'))) cv cd fixes cv' cd'
+          → TurnOver most mode k t input output fixes
+      turn-over d = sym (ap (λ c. rows_too_large most fixes (fix_rows k t c)) given ∙ ap (rows_too_large most fixes) rows_are) ∙ d.large_is
 
-      module _ (h : f.large ≡ false) where
+      module _ {f : Fixed} {cv' : List ℕ} {cd' : List ℤ} {fk' fv' ft' : List ℕ} {fd' : List ℤ}
+          (d₀ : FixedAt most k t (correction mode (entries (take (a - 0) iv') (take (a - 0) id')) (entries (take (b - 0) ov') (take (b - 0) od'))) cv cd fixes f cv' cd' fk fv ft fd fk' fv' ft' fd') where
+        d : FixedAt most k t C cv cd fixes f cv' cd' fk fv ft fd fk' fv' ft' fd'
+        d = subst (λ (c : Sums). FixedAt most k t c cv cd fixes f cv' cd' fk fv ft fd fk' fv' ft' fd') given d₀
+
+        listed_is : Listed most (rows_in k (round_at mode input output t)) fixes false f.fixes fk fv ft fd fk' fv' ft' fd'
+        listed_is = subst (λ (R : List Row). Listed most R fixes false f.fixes fk fv ft fd fk' fv' ft' fd') rows_are d.listed
+
         not-over : rows_too_large most fixes (fix_rows k t C) ≡ false
-        not-over = sym d.listed.large_is ∙ h
+        not-over = sym d.listed.large_is
 
         pub turn_merges : length iv' ≡ length iv → length ov' ≡ length ov → length id' ≡ length id → MergesBack n (take (f.count - 0) cv') (take (f.count - 0) cd') uv ut ud iv' ov' id'
         turn_merges li lo ld =
@@ -238,18 +238,18 @@ module _ {most : ℕ} {vs ts : List ℕ} {ds : List ℤ} {n : ℕ} {uv ut : List
             }
 
         pub turn_done : {uv' ut' : List ℕ} {ud' : List ℤ} {m : ℕ} → MergedBack t output (entries (take (f.count - 0) cv') (take (f.count - 0) cd')) uv' ut' ud' m
-            → TurnDone most mode k t input output n fixes (record { output = m; crossed = true; fixes = f.fixes; large = false }) uv' ut' ud' fk fv ft fd fk' fv' ft' fd'
+            → TurnDone most mode k t input output n fixes (record { output = m; crossed = true; fixes = f.fixes }) uv' ut' ud' fk fv ft fd fk' fv' ft' fd'
         turn_done {uv'} {ut'} {ud'} {m} g₀ =
             let g : MergedBack t output C uv' ut' ud' m = subst (λ (c : Sums). MergedBack t output c uv' ut' ud' m) (held_entries d.corrected) g₀ in
             let e : m ≡ length output + length C = g.count_is in
             let l : length output ≤ n = rw length-take (omega arith) in
             let w : n ≤ most + fixes = x.within in
-            let s : f.fixes ≡ fixes + length (fix_rows k t C) = d.listed.fixes_are h in
+            let s : f.fixes ≡ fixes + length (fix_rows k t C) = d.listed.fixes_are refl in
             let r : length (fix_rows k t C) ≡ length C = rows-length k t C in
             record {
               crossed_is = sym (ap (λ (y : Round). y.crossed) round_is);
-              listed = subst (λ b. Listed most (rows_in k (round_at mode input output t)) fixes b f.fixes fk fv ft fd fk' fv' ft' fd') h listed_is;
-              output_is = λ z. g.output_is ∙ ap (λ (y : Round). merged output t y.fixes) (sym round_is);
-              within = λ z. omega arith;
-              orderly = λ z. subst (Orderly (most_records + f.fixes)) (sym g.output_is) (merged_orderly output t C (omega arith) x.output (fixes_small most fixes k t C not-over));
+              listed = listed_is;
+              output_is = g.output_is ∙ ap (λ (y : Round). merged output t y.fixes) (sym round_is);
+              within = omega arith;
+              orderly = subst (Orderly (most_records + f.fixes)) (sym g.output_is) (merged_orderly output t C (omega arith) x.output (fixes_small most fixes k t C not-over));
             }

@@ -3,10 +3,10 @@
 --
 -- most: for how many corrections there is room
 -- TurnAsks: what a round asks. Its output, with its corrections so far, are the first n edits of three columns
--- TurnDone mode k t input output: the round of the key k at t is done
+-- TurnDone mode k t input output: the round of the key k at t is done. TurnOver: with it the corrections are too large
 -- MergesBack: what merging a round's correction into the output asks. MergedBack: what it leaves
 -- KeyAsks: what all rounds of a key ask
-use Rattle.std.specs.Prelude.{ℕ, ◌+◌, ◌≤◌, false, List, map, ◌≡◌, leb, ℤ, length, take}
+use Rattle.std.specs.Prelude.{ℕ, ◌+◌, ◌≤◌, true, false, List, map, ◌≡◌, leb, ℤ, length, take}
 use Rattle.grid.specs.Records.{most_records}
 use Rattle.grid.proofs.Sort.{Sorted}
 use Rattle.rules.specs.Histories.{Edit, value_of}
@@ -16,7 +16,7 @@ use Rattle.rules.specs.Retire.{round_at}
 use Rattle.moments.specs.Present.{edits}
 use Rattle.moments.specs.Window.{Orderly}
 use Rattle.rounds.specs.Merges.{merged}
-use Rattle.slots.specs.Slots.{rows_in}
+use Rattle.slots.specs.Slots.{rows_in, rows_too_large}
 use Rattle.fixing.specs.Settle.{Listed, LentFixes, LentSums}
 use Rattle.fixing.specs.Windows.{LentRounds}
 use Rattle.plain.specs.declared.Turn.{Turn}
@@ -39,10 +39,13 @@ pub record TurnAsks (most : ℕ) (vs ts : List ℕ) (ds : List ℤ) (n : ℕ) (u
 
 pub record TurnDone (most mode k t : ℕ) (input output : List Edit) (n fixes : ℕ) (r : Turn) (uv ut : List ℕ) (ud : List ℤ) (fk₀ fv₀ ft₀ : List ℕ) (fd₀ : List ℤ) (fk fv ft : List ℕ) (fd : List ℤ) : Type 0 where
   pub crossed_is : r.crossed ≡ (round_at mode input output t).crossed
-  pub listed : Listed most (rows_in k (round_at mode input output t)) fixes r.large r.fixes fk₀ fv₀ ft₀ fd₀ fk fv ft fd
-  pub output_is : r.large ≡ false → take r.output (edits uv ut ud) ≡ merged output t (round_at mode input output t).fixes
-  pub within : r.large ≡ false → r.output ≤ most + r.fixes
-  pub orderly : r.large ≡ false → Orderly (most_records + r.fixes) (take r.output (edits uv ut ud))
+  pub listed : Listed most (rows_in k (round_at mode input output t)) fixes false r.fixes fk₀ fv₀ ft₀ fd₀ fk fv ft fd
+  pub output_is : take r.output (edits uv ut ud) ≡ merged output t (round_at mode input output t).fixes
+  pub within : r.output ≤ most + r.fixes
+  pub orderly : Orderly (most_records + r.fixes) (take r.output (edits uv ut ud))
+
+abbrev pub TurnOver : ℕ → ℕ → ℕ → ℕ → List Edit → List Edit → ℕ → Type 0
+TurnOver most mode k t input output fixes = rows_too_large most fixes (rows_in k (round_at mode input output t)) ≡ true
 
 pub record MergesBack (n : ℕ) (cv : List ℕ) (cd : List ℤ) (uv ut : List ℕ) (ud : List ℤ) (yv yt : List ℕ) (yd : List ℤ) : Type 0 where
   pub same_cd : length cd ≡ length cv

@@ -5,7 +5,7 @@ ghost use Rattle.moments.specs.Present.{edits};
 ghost use Rattle.plain.specs.Plain.{MergesBack, MergedBack};
 
 use rounds::merge_corrections;
-use slices::{copy, copy_diffs};
+use slices::copy;
 use times::PackedTime;
 
 // The output are the first n edits of uv, ut and ud. With the correction (cv, cd) at t there are as many as it returns.
@@ -27,6 +27,6 @@ pub fn merge_back(
     let m = merge_corrections(&uv[0..n], &ut[0..n], &ud[0..n], cv, cd, t, yv, yt, yd, 0);
     copy(&yv[0..m], uv);
     copy(&yt[0..m], ut);
-    copy_diffs(&yd[0..m], ud);
+    copy(&yd[0..m], ud);
     m
 }

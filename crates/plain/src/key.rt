@@ -1,16 +1,16 @@
 // All rounds of a key.
-ghost use Rattle.std.specs.Prelude.{length, take};
+ghost use Rattle.std.specs.Prelude.{length, take, MatchResult};
 ghost use Rattle.moments.specs.Present.{edits};
-ghost use Rattle.fixing.specs.Settle.{KeySettled};
+ghost use Rattle.fixing.specs.Settle.{KeySettled, KeyOver};
 ghost use Rattle.plain.specs.Plain.{KeyAsks};
 
 use crate::round::turn_plainly;
-use fixing::Settled;
+use fixing::TooLarge;
 use marks::mark;
-use progress::goes_on;
 use times::{KeyHash, PackedTime};
 
-// Settles the key's rounds at its moments, and marks those in which it crosses. Its old output are the first n edits of uv, ut and ud.
+// Settles the key's rounds at its moments, marks those in which it crosses, and returns how many corrections there are. Its old output are the first n
+// edits of uv, ut and ud.
 pub fn rounds_plainly(
     mode: u64,
     key: KeyHash,
@@ -34,25 +34,39 @@ pub fn rounds_plainly(
     ft: &mut [u64],
     fd: &mut [i64],
     fixes: usize,
-) -> Settled
+) -> Result<usize, TooLarge>
     requires { KeyAsks (length fk.old) moments.now values.now times.now diffs.now n uv.old ut.old ud.old iv.old id.old ov.old od.old cv.old cd.old marks.old fk.old fv.old ft.old fd.old fixes }
-    ensures { KeySettled (length fk.old) mode key.0 (edits values.now times.now diffs.now) (take n (edits uv.old ut.old ud.old)) moments.now fixes result marks.old marks.new fk.old fv.old ft.old fd.old fk.new fv.new ft.new fd.new }
+    ensures { MatchResult result (λ r. KeySettled (length fk.old) mode key.0 (edits values.now times.now diffs.now) (take n (edits uv.old ut.old ud.old)) moments.now fixes r marks.old marks.new fk.old fv.old ft.old fd.old fk.new fv.new ft.new fd.new) (λ _. KeyOver (length fk.old) mode key.0 (edits values.now times.now diffs.now) (take n (edits uv.old ut.old ud.old)) moments.now fixes) }
 {
-    let mut j = 0;
-    let mut u = n;
-    let mut k = fixes;
-    let mut large = false;
-    while goes_on(j, moments.len(), large) {
-        let t = PackedTime(moments[j]);
+    let mut output = n;
+    let mut fixes = fixes;
+    for (j, t) in moments.iter().enumerate() {
         let r = turn_plainly(
-            mode, key, t, values, times, diffs, u, uv, ut, ud, iv, id, ov, od, cv, cd, fk, fv, ft,
-            fd, k,
-        );
+            mode,
+            key,
+            PackedTime(*t),
+            values,
+            times,
+            diffs,
+            output,
+            uv,
+            ut,
+            ud,
+            iv,
+            id,
+            ov,
+            od,
+            cv,
+            cd,
+            fk,
+            fv,
+            ft,
+            fd,
+            fixes,
+        )?;
         mark(r.crossed, j, marks);
-        u = r.output;
-        k = r.fixes;
-        large = r.large;
-        j += 1;
+        output = r.output;
+        fixes = r.fixes;
     }
-    Settled { fixes: k, large }
+    Ok(fixes)
 }

@@ -8,11 +8,10 @@ mod window;
 
 pub use window::settle_plainly;
 
-// What a round leaves: how many edits the key's output has, whether the key crossed, how many corrections there are, and whether they are too large.
+// What a round leaves: how many edits the key's output has, whether the key crossed, and how many corrections there are.
 #[derive(Clone, Copy)]
 pub struct Turn {
     pub output: usize,
     pub crossed: bool,
     pub fixes: usize,
-    pub large: bool,
 }

@@ -1,11 +1,11 @@
 // One round of a key.
-ghost use Rattle.std.specs.Prelude.{length, take};
+ghost use Rattle.std.specs.Prelude.{length, take, MatchResult};
 ghost use Rattle.moments.specs.Present.{edits};
-ghost use Rattle.plain.specs.Plain.{TurnAsks, TurnDone};
+ghost use Rattle.plain.specs.Plain.{TurnAsks, TurnDone, TurnOver};
 
 use crate::Turn;
 use crate::back::merge_back;
-use fixing::settle_moment;
+use fixing::{TooLarge, settle_moment};
 use moments::present;
 use times::{KeyHash, PackedTime};
 
@@ -33,19 +33,18 @@ pub fn turn_plainly(
     ft: &mut [u64],
     fd: &mut [i64],
     fixes: usize,
-) -> Turn
+) -> Result<Turn, TooLarge>
     requires { TurnAsks (length fk.old) values.now times.now diffs.now n uv.old ut.old ud.old iv.old id.old ov.old od.old cv.old cd.old fk.old fv.old ft.old fd.old fixes }
-    ensures { TurnDone (length fk.old) mode key.0 t.0 (edits values.now times.now diffs.now) (take n (edits uv.old ut.old ud.old)) n fixes result uv.new ut.new ud.new fk.old fv.old ft.old fd.old fk.new fv.new ft.new fd.new }
+    ensures { MatchResult result (λ r. TurnDone (length fk.old) mode key.0 t.0 (edits values.now times.now diffs.now) (take n (edits uv.old ut.old ud.old)) n fixes r uv.new ut.new ud.new fk.old fv.old ft.old fd.old fk.new fv.new ft.new fd.new) (λ _. TurnOver (length fk.old) mode key.0 t.0 (edits values.now times.now diffs.now) (take n (edits uv.old ut.old ud.old)) fixes) }
 {
     let a = present(values, times, diffs, t, iv, id, 0);
     let b = present(&uv[0..n], &ut[0..n], &ud[0..n], t, ov, od, 0);
     if a + b == 0 {
-        return Turn {
+        return Ok(Turn {
             output: n,
             crossed: false,
             fixes,
-            large: false,
-        };
+        });
     }
     let f = settle_moment(
         mode,
@@ -62,21 +61,12 @@ pub fn turn_plainly(
         ft,
         fd,
         fixes,
-    );
-    if f.large {
-        return Turn {
-            output: n,
-            crossed: true,
-            fixes,
-            large: true,
-        };
-    }
+    )?;
     let k = f.count;
-    let m = merge_back(t, n, &cv[0..k], &cd[0..k], uv, ut, ud, iv, ov, id);
-    Turn {
-        output: m,
+    let output = merge_back(t, n, &cv[0..k], &cd[0..k], uv, ut, ud, iv, ov, id);
+    Ok(Turn {
+        output,
         crossed: true,
         fixes: f.fixes,
-        large: false,
-    }
+    })
 }

@@ -1,19 +1,18 @@
 // The keys of a window, one after the other.
-ghost use Rattle.std.specs.Prelude.{length};
+ghost use Rattle.std.specs.Prelude.{length, MatchResult};
 ghost use Rattle.backends.specs.Segments.{segments};
 ghost use Rattle.moments.specs.Present.{edits};
 ghost use Rattle.moments.specs.Window.{parts_of};
 ghost use Rattle.slots.specs.Slots.{slots_of};
-ghost use Rattle.fixing.specs.Settle.{WindowSettled};
+ghost use Rattle.fixing.specs.Settle.{WindowSettled, WindowOver};
 ghost use Rattle.fixing.specs.Windows.{LentRounds, Slotted};
 
 use crate::key::rounds_plainly;
-use fixing::Settled;
-use progress::goes_on;
+use fixing::TooLarge;
 use rounds::append_edits;
 use times::KeyHash;
 
-// Settles the rounds of all keys of a window. Key b's moments end at mends[b]; its input is from from[b] to to[b], its old output from ofrom[b] to oto[b].
+// Settles the rounds of all keys of a window, and returns how many corrections there are. Key b's moments end at mends[b]; its input is from from[b] to to[b], its old output from ofrom[b] to oto[b].
 pub fn settle_plainly(
     mode: u64,
     keys: &[u64],
@@ -44,18 +43,14 @@ pub fn settle_plainly(
     ft: &mut [u64],
     fd: &mut [i64],
     fixes: usize,
-) -> Settled
+) -> Result<usize, TooLarge>
     requires { Slotted (length fk.old) (length keys.now) moments.now mends.now from.now to.now tv.now tt.now td.now ofrom.now oto.now outvalues.now outtimes.now outdiffs.now × LentRounds (length fk.old) uv.old ut.old ud.old iv.old id.old ov.old od.old cv.old cd.old marks.old fk.old fv.old ft.old fd.old fixes }
-    ensures { WindowSettled (length fk.old) mode (slots_of keys.now (parts_of from.now to.now (edits tv.now tt.now td.now)) (parts_of ofrom.now oto.now (edits outvalues.now outtimes.now outdiffs.now)) (segments 0 mends.now moments.now)) fixes result marks.old marks.new fk.old fv.old ft.old fd.old fk.new fv.new ft.new fd.new }
+    ensures { MatchResult result (λ r. WindowSettled (length fk.old) mode (slots_of keys.now (parts_of from.now to.now (edits tv.now tt.now td.now)) (parts_of ofrom.now oto.now (edits outvalues.now outtimes.now outdiffs.now)) (segments 0 mends.now moments.now)) fixes r marks.old marks.new fk.old fv.old ft.old fd.old fk.new fv.new ft.new fd.new) (λ _. WindowOver (length fk.old) mode (slots_of keys.now (parts_of from.now to.now (edits tv.now tt.now td.now)) (parts_of ofrom.now oto.now (edits outvalues.now outtimes.now outdiffs.now)) (segments 0 mends.now moments.now)) fixes) }
 {
-    let mut b = 0;
-    let mut g = 0;
-    let mut r = Settled {
-        fixes,
-        large: false,
-    };
-    while goes_on(b, keys.len(), r.large) {
-        let h = mends[b];
+    let mut start = 0;
+    let mut fixes = fixes;
+    for (b, key) in keys.iter().enumerate() {
+        let end = mends[b];
         let f = from[b];
         let e = to[b];
         let of = ofrom[b];
@@ -69,10 +64,10 @@ pub fn settle_plainly(
             ud,
             0,
         );
-        r = rounds_plainly(
+        fixes = rounds_plainly(
             mode,
-            KeyHash(keys[b]),
-            &moments[g..h],
+            KeyHash(*key),
+            &moments[start..end],
             &tv[f..e],
             &tt[f..e],
             &td[f..e],
@@ -91,10 +86,9 @@ pub fn settle_plainly(
             fv,
             ft,
             fd,
-            r.fixes,
-        );
-        g = h;
-        b += 1;
+            fixes,
+        )?;
+        start = end;
     }
-    r
+    Ok(fixes)
 }

@@ -1,24 +1,31 @@
 -- All five are stepped past n: the laws of each part.
 --
 -- steps_later: a step goes on. seeds_some, seeds_none: seeds were stepped, some and none
--- TracksOn: a loop tracks the pending times equal to n. tracks_start, tracks_more, tracks_room, tracks_left, tracks_end: the loop keeps that
--- Shifts: a loop has moved all up to i one place down. shifts_start, shifts_more, shifts_end: the loop keeps that
+-- equal_within, tracks: where the pending times equal to n end, and that they are tracked
+-- shifted_down: all but the first of the waiting joins moved one place down
 -- taken_none, taken_other, taken_first: of no waiting join, of a first one that is not n, and of n
-use Prim.Native.Nat.{ℕ, ◌+◌, ◌-◌, ◌≤◌, ◌<◌}
+use Prim.Native.Nat.{ℕ, suc, ◌+◌, ◌-◌, ◌≤◌, ◌<◌}
 use native.Mathlib.Omega.{arith}
 use native.Mathlib.Numerals.{add-one}
-use mathlib.Core.Bool.{Bool, true, false, ◌||◌}
+use native.Mathlib.Nat.{zero-add}
+use mathlib.Core.Bool.{Bool, true, false}
 use mathlib.Core.List.{List, [], ◌∷◌, ◌++◌, append-nil}
 use mathlib.Core.Option.{Option}
 use mathlib.Core.Path.{◌≡◌, refl, sym, ◌∙◌, ap}
 use lib.Dec.{ltb, eqb}
-use lib.ListN.{length, take, drop, get_or, set, length-set, length-drop, drop_of_length-le}
-use lib.Seq.{length-take-le, get_or-take, drop-set-lt, take-suc-set}
-use borrow.Author.Tests.{ltb-true, eq-eqb, ne_eqb, lt-ltb, le-ltb}
+use lib.ListN.{length, take, drop, get_or, set, length-drop}
+use lib.Seq.{length-take-le, get_or-take, drop-drop, take-suc-set}
+use borrow.Rule.Slice.PartMut.{put_mid}
+use Rattle.std.specs.List.{copy_within}
+use Rattle.std.specs.Prelude.{replicate}
+use Rattle.std.proofs.lemmas.List.{drop-take, length-replicate}
+use Rattle.std.proofs.lemmas.List.Edits.{take-paste}
+use Rattle.std.proofs.lemmas.Slice.{take-put_mid}
+use borrow.Author.Tests.{eqb-true, ltb-true, eq-eqb, ne_eqb, lt-ltb, le-ltb}
 use Rattle.grid.specs.Lists.{front, past, ascending}
-use Rattle.grid.proofs.Tests.{or_r}
+use Rattle.grid.proofs.Tests.{by-test}
 use Rattle.grid.proofs.Lists.{All, nil, cons}
-use Rattle.grid.proofs.Loops.{put_more, drop_more, ahead_more, ahead_get_or}
+use Rattle.grid.proofs.Loops.{drop_more}
 use Rattle.grid.proofs.Ascending.{ascending_rest, ascending_above}
 use Rattle.grid.proofs.Consolidate.{strict_ltb}
 use Rattle.grid.proofs.Slices.{drop-later}
@@ -27,6 +34,7 @@ use Rattle.histories.specs.Places.{history_of, Placed, Steps}
 use Rattle.histories.specs.declared.Place.{Place}
 use Rattle.histories.specs.declared.Stepped.{Stepped}
 use Rattle.histories.proofs.Steps.{past_drop}
+use Rattle.grid.proofs.Operations.{front_fits}
 use Rattle.advances.specs.Renewed.{Renewed}
 use Rattle.joins.specs.Sets.{Set}
 use Rattle.joins.proofs.Sets.{set_within}
@@ -49,7 +57,7 @@ module _ {m : Option ℕ} {n : ℕ} {col : List ℕ} {p : Place} {col' : List �
       let t : moved (eqb n) (drop p.at col) ≡ false = sym h.told ∙ e in
       record { placed = h.placed; history = rw t h.history; told = h.told; same_ahead = h.same_ahead; later = steps_later w l h }
 
-  pub seeds_some : {col'' : List ℕ} {r : ℕ} → s.moved ≡ true → Renewed (advance_times m (take s.place.count col')) s.place.count col' col'' r → SeedsStepped m n col p col'' (record { place = record { count = r; at = s.place.at }; moved = true })
+  pub seeds_some : {col'' : List ℕ} {r : ℕ} → s.moved ≡ true → Renewed (advance_times m (take s.place.count col')) s.place.count col' col'' r → SeedsStepped m n col p col'' (record { place = record { count = r; at = s.place.at }; moved = s.moved })
   unfolding history_of seeds_after stepped
   seeds_some {col''} {r} e a =
       let t : moved (eqb n) (drop p.at col) ≡ true = sym h.told ∙ e in
@@ -62,105 +70,49 @@ module _ {m : Option ℕ} {n : ℕ} {col : List ℕ} {p : Place} {col' : List �
       record {
         placed = record { behind = omega arith; within = c };
         history = rw t (λ i. record { ahead = ahead i; buffer = buffer i });
-        told = sym t;
+        told = h.told;
         same_ahead = same ∙ h.same_ahead;
         later = steps_later w l h;
       }
 
 -- ---- pending times
-pub record TracksOn (n : ℕ) (pending : List ℕ) (at i : ℕ) (tracked₀ : List ℕ) (count : ℕ) (tracked : List ℕ) (k : ℕ) : Type 0 where
-  pub later : at ≤ i
-  pub within : i ≤ length pending
-  pub counted : k + at ≡ count + i
-  pub same : length tracked ≡ length tracked₀
-  pub room : k + (length pending - i) ≤ length tracked
-  pub rest : past (eqb n) (drop i pending) ≡ past (eqb n) (drop at pending)
-  pub held : take k tracked ++ front (eqb n) (drop i pending) ≡ take count tracked₀ ++ front (eqb n) (drop at pending)
-  pub found : (ltb at i || moved (eqb n) (drop i pending)) ≡ moved (eqb n) (drop at pending)
+front_alike : (n : ℕ) (xs : List ℕ) → front (eqb n) xs ≡ replicate (length (front (eqb n) xs)) n
+front_alike n [] = refl
+front_alike n (x ∷ xs) =
+    by-test (eqb n x) (λ e. let q : n ≡ x = eqb-true n x e in rw e (ap (λ y. y ∷ front (eqb n) xs) (sym q) ∙ ap (λ l. n ∷ l) (front_alike n xs))) (λ e. rw e)
 
-pub tracks_start : (n : ℕ) (pending : List ℕ) (at : ℕ) (tracked : List ℕ) (count : ℕ) → at ≤ length pending → count + (length pending - at) ≤ length tracked → TracksOn n pending at at tracked count tracked count
-tracks_start n pending at tracked count w r = record { later = omega arith; within = w; counted = refl; same = refl; room = r; rest = refl; held = refl; found = rw (le-ltb at at (omega arith)) }
+front_moves : (p : ℕ → Bool) (xs : List ℕ) (i : ℕ) → ltb i (i + length (front p xs)) ≡ moved p xs
+unfolding moved
+front_moves p [] i = le-ltb i (i + 0) (omega arith)
+front_moves p (x ∷ xs) i = by-test (p x) (λ e. rw e (lt-ltb i (i + suc (length (front p xs))) (omega arith))) (λ e. rw e (le-ltb i (i + 0) (omega arith)))
 
-module _ {n : ℕ} {pending : List ℕ} {at i : ℕ} {tracked₀ : List ℕ} {count : ℕ} {tracked : List ℕ} {k : ℕ} (w : TracksOn n pending at i tracked₀ count tracked k) where
-  pub tracks_room : i < length pending → k < length tracked
-  tracks_room h = let r : k + (length pending - i) ≤ length tracked = w.room in omega arith
+pub equal_within : (n : ℕ) (pending : List ℕ) (at : ℕ) {to : ℕ} → at ≤ length pending → to ≡ at + length (front (eqb n) (drop at pending)) → (at ≤ to) × (to ≤ length pending)
+equal_within n pending at w e =
+    let l : length (front (eqb n) (drop at pending)) ≤ length (drop at pending) = front_fits (eqb n) (drop at pending) in
+    let d : length (drop at pending) ≡ length pending - at = length-drop at pending in
+    (omega arith, omega arith)
 
-  pub tracks_more : i < length pending → n ≡ get_or pending i 0 → TracksOn n pending at (i + 1) tracked₀ count (set tracked k n) (k + 1)
-  unfolding moved
-  tracks_more h e =
-      let d : drop i pending ≡ n ∷ drop (i + 1) pending = drop_more pending i 0 h ∙ ap (λ x. x ∷ drop (i + 1) pending) (sym e) in
-      let t : eqb n n ≡ true = eq-eqb n n refl in
-      let a : at ≤ i = w.later in
-      let c : k + at ≡ count + i = w.counted in
-      let r : k + (length pending - i) ≤ length tracked = w.room in
-      record {
-        later = omega arith;
-        within = omega arith;
-        counted = omega arith;
-        same = simp length-set w.same;
-        room = simp length-set (omega arith);
-        rest = sym (rw d (rw t)) ∙ w.rest;
-        held = put_more tracked k n (omega arith) w.held (rw d (rw t));
-        found = rw (lt-ltb at (i + 1) (omega arith)) (sym (or_r (ltb at i) _ (rw d (rw t))) ∙ w.found);
-      }
-
-  tracks_none : front (eqb n) (drop i pending) ≡ [] → past (eqb n) (drop i pending) ≡ drop i pending → Tracking n pending at tracked₀ count tracked (record { count = k; at = i })
-  unfolding moved
-  tracks_none f g =
-      record {
-        later = w.later;
-        within = w.within;
-        ahead = sym g ∙ w.rest;
-        held = sym (append-nil (take k tracked)) ∙ ap (λ l. take k tracked ++ l) (sym f) ∙ w.held;
-        counted = w.counted;
-        told = go (ltb at i) (rw f) w.found;
-      }
-    where
-      go : (b : Bool) {c d : Bool} → c ≡ false → (b || c) ≡ d → b ≡ d
-      go true e f = f
-      go false e f = sym e ∙ f
-
-  pub tracks_left : i < length pending → (n ≡ get_or pending i 0 → ⊥) → Tracking n pending at tracked₀ count tracked (record { count = k; at = i })
-  tracks_left h e =
-      let d : drop i pending ≡ get_or pending i 0 ∷ drop (i + 1) pending = drop_more pending i 0 h in
-      let t : eqb n (get_or pending i 0) ≡ false = ne_eqb n (get_or pending i 0) e in
-      tracks_none (rw d (rw t)) (rw d (rw t))
-
-  pub tracks_end : length pending ≤ i → Tracking n pending at tracked₀ count tracked (record { count = k; at = i })
-  tracks_end h =
-      let d : drop i pending ≡ [] = drop_of_length-le pending h in
-      tracks_none (rw d) (rw d)
+pub tracks : (n : ℕ) (pending : List ℕ) (at : ℕ) (tracked : List ℕ) (count : ℕ) {to : ℕ} {x : List ℕ} → at ≤ length pending → count + (length pending - at) ≤ length tracked → to ≡ at + length (front (eqb n) (drop at pending)) → x ≡ replicate (to - at) n
+    → Tracking n pending at tracked count (put_mid count ((count + (to - at)) - count) tracked x) (record { count = count + (to - at); at = to })
+tracks n pending at tracked count {to} {x} w r e f =
+    let b = equal_within n pending at w e in
+    let k : to - at ≡ length (front (eqb n) (drop at pending)) = omega arith in
+    record {
+      later = b.0;
+      within = b.1;
+      ahead = ap (λ i. drop i pending) e ∙ sym (drop-drop (length (front (eqb n) (drop at pending))) at pending) ∙ sym (past_drop (eqb n) (drop at pending));
+      held =
+          take-put_mid count ((count + (to - at)) - count) tracked x (count + (to - at)) (ap (λ i. count + i) (sym (ap length f ∙ length-replicate (to - at) n))) (omega arith)
+          ∙ ap (λ l. take count tracked ++ l) (f ∙ ap (λ i. replicate i n) k ∙ sym (front_alike n (drop at pending)));
+      counted = omega arith;
+      told = rw e (front_moves (eqb n) (drop at pending) at);
+    }
 
 -- ---- waiting joins
-pub record Shifts (s₀ s : List ℕ) (count i : ℕ) : Type 0 where
-  pub same : length s ≡ length s₀
-  pub counted : i + 1 ≤ count
-  pub within : count ≤ length s₀
-  pub ahead : drop (i + 1) s ≡ drop (i + 1) s₀
-  pub done : take i s ++ drop (i + 1) (take count s₀) ≡ drop 1 (take count s₀)
-
-pub shifts_start : (s : List ℕ) (count : ℕ) → 1 ≤ count → count ≤ length s → Shifts s s count 0
-shifts_start s count h l = record { same = refl; counted = h; within = l; ahead = refl; done = refl }
-
-module _ {s₀ s : List ℕ} {count i : ℕ} (w : Shifts s₀ s count i) where
-  pub shifts_more : i + 1 < count → Shifts s₀ (set s i (get_or s (i + 1) 0)) count (i + 1)
-  shifts_more h =
-      let l : length s ≡ length s₀ = w.same in
-      let f : count ≤ length s₀ = w.within in
-      let x : get_or s (i + 1) 0 ≡ get_or (take count s₀) (i + 1) 0 = ahead_get_or s s₀ (i + 1) 0 w.ahead ∙ sym (get_or-take count s₀ (i + 1) 0 h) in
-      record {
-        same = simp length-set l;
-        counted = omega arith;
-        within = f;
-        ahead = drop-set-lt (i + 1 + 1) s i _ (omega arith) ∙ ahead_more s s₀ (i + 1) w.ahead;
-        done = put_more s i _ (omega arith) w.done (drop_more (take count s₀) (i + 1) 0 (rw (length-take-le count s₀ f) h) ∙ ap (λ z. z ∷ drop (i + 1 + 1) (take count s₀)) (sym x));
-      }
-
-  pub shifts_end : count ≤ i + 1 → take (count - 1) s ≡ drop 1 (take count s₀)
-  shifts_end h =
-      let c : i + 1 ≤ count = w.counted in
-      let e : count - 1 ≡ i = omega arith in
-      rw e (sym (append-nil (take i s)) ∙ rw (drop_of_length-le (take count s₀) {i = i + 1} (rw (length-take-le count s₀ w.within) h)) at w.done)
+pub shifted_down : (s : List ℕ) (count : ℕ) → 1 ≤ count → count ≤ length s → take (count - 1) (copy_within s 1 count 0) ≡ drop 1 (take count s)
+shifted_down s count h l =
+    let e : 1 + (count - 1) ≡ count = omega arith in
+    ap (λ k. take k (copy_within s 1 count 0)) (sym (zero-add (count - 1))) ∙ take-paste s 0 (drop 1 s) (count - 1) (omega arith) (simp length-drop (omega arith)) ∙ sym (drop-take 1 (count - 1) s) ∙ ap (λ k. drop 1 (take k s)) e
 
 module _ (n : ℕ) (waiting : List ℕ) (wcount : ℕ) (tracked : List ℕ) (tcount : ℕ) (w : Set waiting wcount) where
   stays : front (eqb n) (take wcount waiting) ≡ [] → past (eqb n) (take wcount waiting) ≡ take wcount waiting → Taking n waiting wcount tracked tcount waiting tracked (record { waiting = wcount; tracked = tcount })

@@ -5,7 +5,7 @@ mod stepping;
 
 use histories::Place;
 pub use stepping::pop_all;
-use times::Meet;
+use times::PackedTime;
 
 // The places and counts of a walk in its lent columns, and the meet of all that remained before it.
 #[derive(Clone, Copy)]
@@ -18,7 +18,7 @@ pub struct Walk {
     pub tracked: usize,
     pub moments: usize,
     pub pended: usize,
-    pub m: Meet,
+    pub m: Option<PackedTime>,
 }
 
 // How many waiting joins and tracked times there are.

@@ -9,26 +9,30 @@ ghost use Rattle.pops.specs.Standing.{Standing};
 
 use crate::{Popped, Taken, Walk};
 use advances::advance_times;
-use histories::{Place, Stepped, step_while_time_is};
-use times::{Meet, PackedTime};
+use histories::{Place, Stepped, end_of_equal, step_while_time_is};
+use times::PackedTime;
 
 // Steps seeds while the next equals n. If any was popped, the buffer is advanced by m.
-fn step_seeds(seeds: &mut [u64], p: Place, n: PackedTime, m: Meet, work: &mut [u64]) -> Stepped
+fn step_seeds(
+    seeds: &mut [u64],
+    p: Place,
+    n: PackedTime,
+    m: Option<PackedTime>,
+    work: &mut [u64],
+) -> Stepped
     requires { Placed (length seeds.old) p × (length seeds.old ≤ length work.old) }
     ensures { SeedsStepped (optional m) n.0 seeds.old p seeds.new result }
 {
     let s = step_while_time_is(seeds, p, n);
     if s.moved {
         let count = advance_times(seeds, s.place.count, m, work);
-        return Stepped {
-            place: Place {
-                count,
-                at: s.place.at,
-            },
-            moved: true,
-        };
+        Stepped {
+            place: Place { count, ..s.place },
+            ..s
+        }
+    } else {
+        s
     }
-    s
 }
 
 // Tracks the pending times while the next equals n.
@@ -42,29 +46,12 @@ fn track_pending(
     requires { (at ≤ length pending.now) × (count + (length pending.now - at) ≤ length tracked.old) }
     ensures { Tracking n.0 pending.now at tracked.old count tracked.new result }
 {
-    let mut i = at;
-    let mut k = count;
-    while i < pending.len() {
-        if n.0 == pending[i] {
-            tracked[k] = n.0;
-            i += 1;
-            k += 1;
-        } else {
-            return Place { count: k, at: i };
-        }
-    }
-    Place { count: k, at: i }
-}
-
-// Moves all but the first of the first `count` one place down.
-fn shift_down(s: &mut [u64], count: usize)
-    requires { (1 ≤ count) × (count ≤ length s.old) }
-    ensures { take (count - 1) s.new ≡ drop 1 (take count s.old) }
-{
-    let mut i = 0;
-    while i + 1 < count {
-        s[i] = s[i + 1];
-        i += 1;
+    let end = end_of_equal(pending, at, n);
+    let after = count + (end - at);
+    tracked[count..after].fill(n.0);
+    Place {
+        count: after,
+        at: end,
     }
 }
 
@@ -79,36 +66,19 @@ fn track_waiting(
     requires { Set waiting.old wcount × (tcount < length tracked.old) }
     ensures { Taking n.0 waiting.old wcount tracked.old tcount waiting.new tracked.new result }
 {
-    if wcount == 0 {
-        return Taken {
-            waiting: wcount,
-            tracked: tcount,
-        };
-    }
-    if n.0 == waiting[0] {
+    if wcount > 0 && n.0 == waiting[0] {
         tracked[tcount] = n.0;
-        shift_down(waiting, wcount);
-        return Taken {
+        waiting.copy_within(1..wcount, 0);
+        Taken {
             waiting: wcount - 1,
             tracked: tcount + 1,
-        };
+        }
+    } else {
+        Taken {
+            waiting: wcount,
+            tracked: tcount,
+        }
     }
-    Taken {
-        waiting: wcount,
-        tracked: tcount,
-    }
-}
-
-fn any_moved(a: bool, b: bool, c: bool) -> bool
-    ensures { result ≡ (a || (b || c)) }
-{
-    if a {
-        return true;
-    }
-    if b {
-        return true;
-    }
-    c
 }
 
 // Steps all five past n.
@@ -129,27 +99,21 @@ pub fn pop_all(
     requires set { Set waiting.old p.waiting × ((length seeds.old ≤ length work.old) × (suc (p.tracked + (length pending.now - p.pending)) ≤ length tracked.old)) }
     ensures { Popping n.0 seeds.old pending.now (edits times.old values.old diffs.old) output.old waiting.old tracked.old p seeds.new (edits times.new values.new diffs.new) output.new waiting.new tracked.new result.hit result.walk }
 {
-    let m = p.m;
     let i = edits::step_while_time_is(times, values, diffs, p.input, n);
     let o = step_while_time_is(output, p.output, n);
-    let s = step_seeds(seeds, p.seeds, n, m, work);
-    let input = i.place;
-    let output_place = o.place;
-    let seeds_place = s.place;
+    let s = step_seeds(seeds, p.seeds, n, p.m, work);
     let t = track_pending(pending, p.pending, n, tracked, p.tracked);
     let w = track_waiting(waiting, p.waiting, n, tracked, t.count);
-    let hit = any_moved(s.moved, p.pending < t.at, w.waiting < p.waiting);
+    let hit = s.moved || p.pending < t.at || w.waiting < p.waiting;
     Popped {
         walk: Walk {
-            seeds: seeds_place,
+            seeds: s.place,
             pending: t.at,
-            input,
-            output: output_place,
+            input: i.place,
+            output: o.place,
             waiting: w.waiting,
             tracked: w.tracked,
-            moments: p.moments,
-            pended: p.pended,
-            m,
+            ..p
         },
         hit,
     }

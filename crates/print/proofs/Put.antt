@@ -1,7 +1,7 @@
 -- Texts that are put one after the other.
 --
 -- Writing goal out₀ from out at rest: a text is put piece by piece: what was put so far, and then the rest, is the goal
-use Prim.Native.Nat.{ℕ, suc, ◌+◌, ◌/◌, ◌%◌, ◌≤◌, ◌<◌}
+use Prim.Native.Nat.{ℕ, suc, ◌+◌, ◌≤◌, ◌<◌}
 use native.Mathlib.Nat.{add-zero, add-suc, suc-add}
 use native.Mathlib.Numerals.{add-one}
 use native.Mathlib.Omega.{arith}
@@ -10,8 +10,8 @@ use mathlib.Core.List.{List, [], ◌∷◌, ◌++◌, append-nil, append_assoc}
 use mathlib.Core.Path.{◌≡◌, refl, sym, ◌∙◌, ap}
 use lib.Dec.{ltb}
 use lib.IntN.{ℤ}
-use lib.ListN.{length, drop, get_or, set, length-append, drop_of_length-le}
-use lib.Seq.{sets, length-sets, drop-cons, set_out}
+use lib.ListN.{length, drop, take, get_or, set, length-append, drop_of_length-le}
+use lib.Seq.{take-length, sets, length-sets, drop-cons, set_out}
 use borrow.Author.Tests.{ltb-true, ltb-false}
 use Rattle.grid.proofs.Tests.{by-test}
 use Rattle.grid.specs.Times.{hi, lo}
@@ -35,10 +35,6 @@ put_is {out = out} {out'} {at} {r} e p = rw e at p
 
 pub put_none : (out : List ℕ) (at : ℕ) → Put [] out out at at
 put_none out at = record { holds = refl; fits = λ h. omega arith; over = λ h. omega arith }
-
--- one byte past the end
-pub put_past : (out : List ℕ) (at b : ℕ) → length out ≤ at → Put (b ∷ []) out out at (length out + 1)
-put_past out at b h = record { holds = sym (sets_past (b ∷ []) out at h); fits = λ k. omega arith; over = λ k. omega arith }
 
 module _ {xs ys out out₁ out₂ : List ℕ} {at k r : ℕ} (p : Put xs out out₁ at k) (q : Put ys out₁ out₂ k r) where
   both_long : length (xs ++ ys) ≡ length xs + length ys
@@ -106,13 +102,10 @@ module _ {goal out₀ : List ℕ} {from : ℕ} {out : List ℕ} {at : ℕ} {rest
   pub writing_end : [] ≡ rest → Put goal out₀ out from at
   writing_end e = put_is (sym (append-nil w.text) ∙ ap (λ l. w.text ++ l) e ∙ w.whole) w.put
 
-  pub writing_long : length out ≡ length out₀
-  writing_long = put_long w.put
-
 -- ---- what texts are made of
-pub time_parts : (t : ℕ) → decimal (t / 4294967296) ++ (58 ∷ []) ++ decimal (t % 4294967296) ≡ show_time t
-unfolding show_time hi lo
-time_parts t = refl
+pub time_parts : (t : ℕ) {a b : ℕ} → a ≡ hi t → b ≡ lo t → decimal a ++ (58 ∷ []) ++ decimal b ≡ show_time t
+unfolding show_time
+time_parts t e f = rw (e, f)
 
 pub pair_parts : (k t : ℕ) → decimal k ++ (44 ∷ []) ++ show_time t ≡ show_pair (k, t)
 unfolding show_pair
@@ -135,15 +128,15 @@ pub more_some : (ts : List ℕ) (i : ℕ) → i < length ts → ((59 ∷ []) ++ 
 unfolding show_more
 more_some ts i h = rw (add-one i, drop-cons ts i 0 h)
 
-pub list_none : (ts : List ℕ) → length ts ≡ 0 → (45 ∷ []) ≡ show_list ts
+pub list_none : (ts : List ℕ) → length ts < 1 → (45 ∷ []) ≡ show_list ts
 unfolding show_list
 list_none [] h = refl
 list_none (t ∷ ts) h = absurd (omega arith)
 
-pub list_some : (ts : List ℕ) → 0 < length ts → show_time (get_or ts 0 0) ++ show_more (drop 1 ts) ≡ show_list ts
+pub list_some : (ts : List ℕ) (k : ℕ) → 1 ≤ length ts → length ts ≡ k + 1 → show_time (get_or ts 0 0) ++ show_more (take k (drop 1 ts)) ≡ show_list ts
 unfolding show_list
-list_some [] h = absurd (omega arith)
-list_some (t ∷ ts) h = refl
+list_some [] k h l = absurd (omega arith)
+list_some (t ∷ ts) k h l = let e : k ≡ length ts = omega arith in rw (e, take-length ts)
 
 -- a word, byte by byte
 pub word_none : (w : List ℕ) (i : ℕ) → length w ≤ i → [] ≡ drop i w

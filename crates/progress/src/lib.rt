@@ -1,11 +1,11 @@
 // How far a call has come.
 #![tactic(auto)]
 
-ghost use Rattle.std.specs.Prelude.{◌&&◌, ◌||◌, not, ◌≡◌, ltb};
+ghost use Rattle.std.specs.Prelude.{◌||◌, ◌≡◌};
 
 // Where the searches in its runs stand, how many pended times and corrections there are, in how many rounds keys have
 // crossed, whether corrections are too large, and whether a limit was passed.
-#[derive(Clone, Copy)]
+#[derive(Clone, Copy, Default)]
 pub struct Progress {
     pub new: usize,
     pub pending: usize,
@@ -22,18 +22,5 @@ pub struct Progress {
 pub fn is_done(p: Progress) -> bool
     ensures { result ≡ (p.over || p.large) }
 {
-    if p.over {
-        return true;
-    }
-    p.large
-}
-
-// Whether there is a j-th of n, and nothing stops.
-pub fn goes_on(j: usize, n: usize, stop: bool) -> bool
-    ensures { result ≡ (not stop && ltb j n) }
-{
-    if stop {
-        return false;
-    }
-    j < n
+    p.over || p.large
 }

@@ -2,16 +2,16 @@
 --
 -- told_times: of a list of times, which stands at the front of the slice that was lent for it
 -- told_head, told_end: of the first five lines, of the last line
--- times_count, head_counts, FewTimes: how many times were read
+-- FewTimes: how many times were read
 -- Few, LineAfter: how many lines the sections have, and the number of the line after them
 -- Room: the columns are long enough for every request
 -- part f a: a list of the request that was read, empty if there is none
 -- answered: the reader's answer to what was asked. counts_of: the counts in an answer, 0 after a refusal
--- no_lines, refusal: what is found where a line is bad. LinesStand: where the lines of each kind stand
+-- found_of: what was found, nothing where a line is bad. request_of: the request in it. LinesStand: where the lines of each kind stand
 -- Looked: the front of each list's slice holds it. FrontRead: and what is past it is zero
 -- RequestRead: each column holds its list of the request, and zeros past it
-use Rattle.std.specs.Prelude.{ℕ, ◌+◌, ◌≤◌, ◌≡◌, List, [], map, ℤ, pos, drop, take, length}
-use Rattle.std.proofs.Math.Option.{Option, none, some}
+use Rattle.std.specs.Prelude.{ℕ, ◌+◌, ◌≤◌, ◌≡◌, List, [], map, ℤ, pos, drop, take, length, Option, Some, None, Result, Ok, Err}
+use Rattle.std.proofs.Math.Option as read
 use Rattle.grid.specs.Lists.{padded}
 use Rattle.grid.specs.Frontiers.{most_times}
 use Rattle.rules.specs.Call.{Request as AnyRequest}
@@ -20,41 +20,28 @@ use Rattle.form.specs.Read.{most_lines, row, pair, line, Asked, bad, asked, body
 use Rattle.records.specs.declared.Section.{Section}
 use Rattle.records.specs.declared.Lines.{Lines}
 use Rattle.records.specs.Told.{Stands}
-use Rattle.reading.specs.declared.Times.{Times}
-use Rattle.reading.specs.declared.Times.TheVariants.{NotTimes, Times as AreTimes}
-use Rattle.reading.specs.declared.Head.{Head}
-use Rattle.reading.specs.declared.Head.TheVariants.{BadHead, Head as IsHead}
-use Rattle.reading.specs.declared.End.{End}
-use Rattle.reading.specs.declared.End.TheVariants.{BadEnd, End as IsEnd}
+use Rattle.reading.specs.declared.BadLine.{BadLine}
 use Rattle.reading.specs.declared.Counts.{Counts}
 use Rattle.reading.specs.declared.Request.{Request}
-use Rattle.reading.specs.declared.Request.TheVariants.{Bad, Asked as IsAsked}
+use Rattle.reading.specs.declared.Head.{Head}
 use Rattle.reading.specs.declared.Found.{Found}
 
-abbrev pub told_times : List ℕ → List ℕ → Times → Option (List ℕ × List ℕ)
-told_times s out NotTimes = none
-told_times s out (AreTimes k n) = some (take k out, drop n s)
+abbrev pub told_times : List ℕ → List ℕ → Option (ℕ × ℕ) → read.Option (List ℕ × List ℕ)
+told_times s out None = read.none
+told_times s out (Some x) = read.some (take x.0 out, drop x.1 s)
 
-abbrev pub times_count : Times → ℕ
-times_count NotTimes = 0
-times_count (AreTimes k n) = k
+abbrev pub told_head : List ℕ → List ℕ → List ℕ → List ℕ → Result (Head × ℕ) BadLine → Asked
+told_head s lower upper held (Err e) = bad e.0
+told_head s lower upper held (Ok x) = body x.0.mode x.0.width (take x.0.lower lower) (take x.0.upper upper) (take x.0.held held) (drop x.1 s)
 
-abbrev pub told_head : List ℕ → List ℕ → List ℕ → List ℕ → Head → Asked
-told_head s lower upper held (BadHead n) = bad n
-told_head s lower upper held (IsHead m w l u h n) = body m w (take l lower) (take u upper) (take h held) (drop n s)
+pub record FewTimes (lower upper held : ℕ) : Type 0 where
+  pub few_lower : lower ≤ most_times
+  pub few_upper : upper ≤ most_times
+  pub few_held : held ≤ most_times
 
-abbrev pub head_counts : Head → ℕ × (ℕ × ℕ)
-head_counts (BadHead n) = (0, (0, 0))
-head_counts (IsHead m w l u h n) = (l, (u, h))
-
-pub record FewTimes (n : ℕ × (ℕ × ℕ)) : Type 0 where
-  pub few_lower : n.0 ≤ most_times
-  pub few_upper : n.1.0 ≤ most_times
-  pub few_held : n.1.1 ≤ most_times
-
-abbrev pub told_end : AnyRequest → End → Asked
-told_end q (BadEnd n) = bad n
-told_end q IsEnd = asked q
+abbrev pub told_end : AnyRequest → Result (Unit {0}) BadLine → Asked
+told_end q (Err e) = bad e.0
+told_end q (Ok u) = asked q
 
 pub record Few (old new out pending : ℕ) : Type 0 where
   pub few_old : old ≤ most_lines
@@ -109,19 +96,30 @@ counted q = record {
   pending = length q.pending;
 }
 
-abbrev pub answered : Asked → Request
-answered (bad n) = Bad n
-answered (asked q) = IsAsked q.mode q.width (counted q)
+abbrev pub answered : Asked → Result Request BadLine
+answered (bad n) = Err (record { 0 = n })
+answered (asked q) = Ok (record { mode = q.mode; width = q.width; counts = counted q })
 
-abbrev pub counts_of : Request → Counts
-counts_of (Bad n) = record { lower = 0; upper = 0; held = 0; old = 0; new = 0; out = 0; pending = 0 }
-counts_of (IsAsked m w n) = n
+abbrev pub no_counts : Counts
+no_counts = record { lower = 0; upper = 0; held = 0; old = 0; new = 0; out = 0; pending = 0 }
+
+abbrev pub counts_of : Result Request BadLine → Counts
+counts_of (Err e) = no_counts
+counts_of (Ok q) = q.counts
 
 abbrev pub no_lines : Section
 no_lines = record { first = 0; count = 0; next = 0 }
 
-abbrev pub refusal : ℕ → Found
-refusal n = record { answer = Bad n; lines = record { old = no_lines; new = no_lines; out = no_lines; pending = no_lines } }
+abbrev pub found_of : Result Found BadLine → Found
+found_of (Err e) = record {
+  request = record { mode = 0; width = 0; counts = no_counts };
+  lines = record { old = no_lines; new = no_lines; out = no_lines; pending = no_lines };
+}
+found_of (Ok x) = x
+
+abbrev pub request_of : Result Found BadLine → Result Request BadLine
+request_of (Err e) = Err e
+request_of (Ok x) = Ok x.request
 
 pub record LinesStand (s : List ℕ) (a : Asked) (x : Lines) : Type 0 where
   pub old : Stands s (line (ascii "old=") row) (part (λ q. q.old) a) x.old
@@ -129,20 +127,20 @@ pub record LinesStand (s : List ℕ) (a : Asked) (x : Lines) : Type 0 where
   pub out : Stands s (line (ascii "out=") row) (part (λ q. q.out) a) x.out
   pub pending : Stands s (line (ascii "pend=") pair) (part (λ q. q.pending) a) x.pending
 
-pub record Looked (s : List ℕ) (a : Asked) (lower' upper' held' : List ℕ) (x : Found) : Type 0 where
-  pub told : x.answer ≡ answered a
-  pub few : FewTimes ((counts_of x.answer).lower, ((counts_of x.answer).upper, (counts_of x.answer).held))
-  pub has_lower : take (counts_of x.answer).lower lower' ≡ part (λ q. q.lower) a
-  pub has_upper : take (counts_of x.answer).upper upper' ≡ part (λ q. q.upper) a
-  pub has_held : take (counts_of x.answer).held held' ≡ part (λ q. q.held) a
-  pub stand : LinesStand s a x.lines
+pub record Looked (s : List ℕ) (a : Asked) (lower' upper' held' : List ℕ) (x : Result Found BadLine) : Type 0 where
+  pub told : request_of x ≡ answered a
+  pub few : FewTimes (found_of x).request.counts.lower (found_of x).request.counts.upper (found_of x).request.counts.held
+  pub has_lower : take (found_of x).request.counts.lower lower' ≡ part (λ q. q.lower) a
+  pub has_upper : take (found_of x).request.counts.upper upper' ≡ part (λ q. q.upper) a
+  pub has_held : take (found_of x).request.counts.held held' ≡ part (λ q. q.held) a
+  pub stand : LinesStand s a (found_of x).lines
 
-pub record FrontRead (s : List ℕ) (a : Asked) (lower upper held lower' upper' held' : List ℕ) (x : Found) : Type 0 where
-  pub told : x.answer ≡ answered a
+pub record FrontRead (s : List ℕ) (a : Asked) (lower upper held lower' upper' held' : List ℕ) (x : Result Found BadLine) : Type 0 where
+  pub told : request_of x ≡ answered a
   pub is_lower : lower' ≡ padded 0 (length lower) (part (λ q. q.lower) a)
   pub is_upper : upper' ≡ padded 0 (length upper) (part (λ q. q.upper) a)
-  pub is_held_lem : held' ≡ padded 0 (length held) (part (λ q. q.held) a)
-  pub stand : LinesStand s a x.lines
+  pub is_held : held' ≡ padded 0 (length held) (part (λ q. q.held) a)
+  pub stand : LinesStand s a (found_of x).lines
 
 pub record RequestRead (a : Asked)
     (lower upper held : List ℕ)
@@ -161,11 +159,11 @@ pub record RequestRead (a : Asked)
     (out_keys' out_values' out_times' : List ℕ)
     (out_diffs' : List ℤ)
     (pending_keys' pending_times' : List ℕ)
-    (r : Request) : Type 0 where
+    (r : Result Request BadLine) : Type 0 where
   pub told : r ≡ answered a
   pub is_lower : lower' ≡ padded 0 (length lower) (part (λ q. q.lower) a)
   pub is_upper : upper' ≡ padded 0 (length upper) (part (λ q. q.upper) a)
-  pub is_held_lem : held' ≡ padded 0 (length held) (part (λ q. q.held) a)
+  pub is_held : held' ≡ padded 0 (length held) (part (λ q. q.held) a)
   pub is_old_keys : old_keys' ≡ padded 0 (length old_keys) (map (λ r. r.key) (part (λ q. q.old) a))
   pub is_old_values : old_values' ≡ padded 0 (length old_values) (map (λ r. r.value) (part (λ q. q.old) a))
   pub is_old_times : old_times' ≡ padded 0 (length old_times) (map (λ r. r.time) (part (λ q. q.old) a))

@@ -1,31 +1,26 @@
 -- What an answer tells, as a reader of `form` says it, and what the columns hold once the lines are read.
 --
--- told_row, told_pair: of one line
+-- row_of, pair_of: the value that an entry stands for
 -- Counted s p from x: the lines that p reads from a place on, at most 512, are counted
 -- Stands s p got x: the lines of a section are those of the list `got`. SectionsStand: so it is of each kind
 -- RowsRead, PairsRead: lines were stored from the first entry of the columns on; the entries after them are as they were
 -- RowsStored, PairsStored: the same, and the entries after them are zero
 use Rattle.std.specs.Prelude.{ℕ, ◌≤◌, ◌≡◌, List, map, drop, length, ℤ, pos}
-use Rattle.std.proofs.Math.Option.{Option, none, some}
 use Rattle.std.proofs.lemmas.List.Edits.{sets}
 use Rattle.grid.specs.Lists.{padded}
-use Rattle.grid.specs.Records.{Row as ARow}
+use Rattle.grid.specs.Records.{Row}
 use Rattle.form.specs.Text.{ascii}
 use Rattle.form.specs.Read.{Reader, most_lines, the_row, row, pair, line, many, Sections}
-use Rattle.records.specs.declared.Row.{Row}
-use Rattle.records.specs.declared.Row.TheVariants.{NotRow, Row as IsRow}
-use Rattle.records.specs.declared.Pair.{Pair}
-use Rattle.records.specs.declared.Pair.TheVariants.{NotPair, Pair as IsPair}
+use Rattle.records.specs.declared.Record.{Record}
+use Rattle.records.specs.declared.Pending.{Pending}
 use Rattle.records.specs.declared.Section.{Section}
 use Rattle.records.specs.declared.Lines.{Lines}
 
-abbrev pub told_row : List ℕ → Row → Option (ARow × List ℕ)
-told_row s NotRow = none
-told_row s (IsRow k v t d n) = some (the_row k.0 v.0 t.0 d, drop n s)
+abbrev pub row_of : Record → Row
+row_of r = the_row r.key.0 r.value.0 r.time.0 r.diff
 
-abbrev pub told_pair : List ℕ → Pair → Option ((ℕ × ℕ) × List ℕ)
-told_pair s NotPair = none
-told_pair s (IsPair k t n) = some ((k.0, t.0), drop n s)
+abbrev pub pair_of : Pending → ℕ × ℕ
+pair_of p = (p.key.0, p.time.0)
 
 pub record Counted {A : Type 0} (s : List ℕ) (p : Reader A) (from : ℕ) (x : Section) : Type 0 where
   pub first_is : x.first ≡ from
@@ -44,7 +39,7 @@ pub record SectionsStand (s : List ℕ) (got : Sections) (x : Lines) : Type 0 wh
   pub pending : Stands s (line (ascii "pend=") pair) got.pending x.pending
   pub after : drop x.pending.next s ≡ got.rest
 
-pub record RowsRead (rows : List ARow) (ks vs ts : List ℕ) (ds : List ℤ) (ks' vs' ts' : List ℕ) (ds' : List ℤ) : Type 0 where
+pub record RowsRead (rows : List Row) (ks vs ts : List ℕ) (ds : List ℤ) (ks' vs' ts' : List ℕ) (ds' : List ℤ) : Type 0 where
   pub keys : ks' ≡ sets ks 0 (map (λ r. r.key) rows)
   pub values : vs' ≡ sets vs 0 (map (λ r. r.value) rows)
   pub times : ts' ≡ sets ts 0 (map (λ r. r.time) rows)
@@ -54,7 +49,7 @@ pub record PairsRead (ps : List (ℕ × ℕ)) (ks ts ks' ts' : List ℕ) : Type 
   pub keys : ks' ≡ sets ks 0 (map (λ p. p.0) ps)
   pub times : ts' ≡ sets ts 0 (map (λ p. p.1) ps)
 
-pub record RowsStored (rows : List ARow) (ks vs ts : List ℕ) (ds : List ℤ) (ks' vs' ts' : List ℕ) (ds' : List ℤ) : Type 0 where
+pub record RowsStored (rows : List Row) (ks vs ts : List ℕ) (ds : List ℤ) (ks' vs' ts' : List ℕ) (ds' : List ℤ) : Type 0 where
   pub keys : ks' ≡ padded 0 (length ks) (map (λ r. r.key) rows)
   pub values : vs' ≡ padded 0 (length vs) (map (λ r. r.value) rows)
   pub times : ts' ≡ padded 0 (length ts) (map (λ r. r.time) rows)

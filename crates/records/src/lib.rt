@@ -1,39 +1,43 @@
 // Reading the lines of records: one line; where the lines of each kind stand; and the lines of a kind into lent columns.
 #![tactic(auto)]
 
-ghost use Rattle.std.specs.Prelude.{◌≤◌, ◌≡◌, drop, length};
-ghost use Rattle.form.specs.Read.{row, pair, line, many, sections};
-ghost use Rattle.records.specs.Told.{told_row, told_pair, Counted, SectionsStand, RowsRead, PairsRead, RowsStored, PairsStored};
+ghost use Rattle.std.specs.Prelude.{ℕ, ◌≤◌, ◌≡◌, drop, length};
+ghost use Rattle.grid.specs.Records.{Row};
+ghost use Rattle.form.specs.Read.{Reader, row, pair, line, many, sections};
+ghost use Rattle.scan.specs.Told.{told};
+ghost use Rattle.records.specs.Told.{row_of, pair_of, Counted, SectionsStand, RowsRead, PairsRead, RowsStored, PairsStored};
 
-use scan::{Diff, Num, Place, Time};
 use times::{KeyHash, PackedTime, ValueId};
 
 // The most lines of a kind.
 const MOST_LINES: usize = 512;
 
-// A record and the place after it.
+// A record: an entry of each column.
 #[derive(Clone, Copy)]
-pub enum Row {
-    NotRow,
-    Row(KeyHash, ValueId, PackedTime, i64, usize),
+pub struct Record {
+    pub key: KeyHash,
+    pub value: ValueId,
+    pub time: PackedTime,
+    pub diff: i64,
 }
 
-// A key, a time and the place after them.
+// A key, and a time at which it is to be looked at again.
 #[derive(Clone, Copy)]
-pub enum Pair {
-    NotPair,
-    Pair(KeyHash, PackedTime, usize),
+pub struct Pending {
+    pub key: KeyHash,
+    pub time: PackedTime,
 }
 
 // The lines of one kind: the place of the first, how many there are, and the place after them.
-#[derive(Clone, Copy)]
+#[derive(Clone, Copy, Default)]
 pub struct Section {
     pub first: usize,
     pub count: usize,
     pub next: usize,
 }
 
-#[derive(Clone, Copy)]
+// Where the lines of each kind stand.
+#[derive(Clone, Copy, Default)]
 pub struct Lines {
     pub old: Section,
     pub new: Section,
@@ -41,111 +45,88 @@ pub struct Lines {
     pub pending: Section,
 }
 
-fn read_row(s: &[u8], at: usize) -> Row
-    ensures { told_row s.now result ≡ row (drop at s.now) }
-{
-    let Num::Num(k, a) = scan::number_and(s, at, 18446744073709551615, 44) else {
-        return Row::NotRow;
-    };
-    let Num::Num(v, b) = scan::number_and(s, a, 18446744073709551615, 44) else {
-        return Row::NotRow;
-    };
-    let Time::Time(t, e) = scan::time_and(s, b, 44) else {
-        return Row::NotRow;
-    };
-    let Diff::Diff(d, n) = scan::read_signed(s, e) else {
-        return Row::NotRow;
-    };
-    Row::Row(KeyHash(k), ValueId(v), t, d, n)
+// What a line tells after its name.
+pub trait Entry: Copy {
+    // What `form` reads of such a line, and the value that an entry stands for.
+    ghost Value: { Type 0 };
+
+    ghost value: { Self → Value };
+
+    ghost reads: { Reader Value };
+
+    // The entry and the place after it.
+    fn read(s: &[u8], at: usize) -> Option<(Self, usize)>
+        ensures { told value s.now result ≡ reads (drop at s.now) };
 }
 
-fn read_pair(s: &[u8], at: usize) -> Pair
-    ensures { told_pair s.now result ≡ pair (drop at s.now) }
-{
-    let Num::Num(k, a) = scan::number_and(s, at, 18446744073709551615, 44) else {
-        return Pair::NotPair;
-    };
-    let Time::Time(t, n) = scan::read_time(s, a) else {
-        return Pair::NotPair;
-    };
-    Pair::Pair(KeyHash(k), t, n)
+impl Entry for Record {
+    ghost Value = { Row };
+
+    ghost value = { row_of };
+
+    ghost reads = { row };
+
+    #[tactic(auto, unfolding(form::specs::Read::row))]
+    fn read(s: &[u8], at: usize) -> Option<(Record, usize)> {
+        let (key, a) = scan::number_and(s, at, u64::MAX, b',')?;
+        let (value, b) = scan::number_and(s, a, u64::MAX, b',')?;
+        let (time, c) = scan::time_and(s, b, b',')?;
+        let (diff, next) = scan::read_signed(s, c)?;
+        let record = Record {
+            key: KeyHash(key),
+            value: ValueId(value),
+            time,
+            diff,
+        };
+        Some((record, next))
+    }
 }
 
-// A whole line: its name, a record, a line feed.
-pub fn row_line(s: &[u8], at: usize, name: &[u8]) -> Row
-    ensures { told_row s.now result ≡ line name.now row (drop at s.now) }
-{
-    let Place::At(a) = scan::read_word(s, at, name) else {
-        return Row::NotRow;
-    };
-    let Row::Row(k, v, t, d, b) = read_row(s, a) else {
-        return Row::NotRow;
-    };
-    let Place::At(n) = scan::read_mark(s, b, 10) else {
-        return Row::NotRow;
-    };
-    Row::Row(k, v, t, d, n)
+impl Entry for Pending {
+    ghost Value = { ℕ × ℕ };
+
+    ghost value = { pair_of };
+
+    ghost reads = { pair };
+
+    #[tactic(auto, unfolding(form::specs::Read::pair))]
+    fn read(s: &[u8], at: usize) -> Option<(Pending, usize)> {
+        let (key, a) = scan::number_and(s, at, u64::MAX, b',')?;
+        let (time, next) = scan::read_time(s, a)?;
+        let pending = Pending {
+            key: KeyHash(key),
+            time,
+        };
+        Some((pending, next))
+    }
 }
 
-pub fn pair_line(s: &[u8], at: usize, name: &[u8]) -> Pair
-    ensures { told_pair s.now result ≡ line name.now pair (drop at s.now) }
+// A whole line: its name, an entry, a line feed.
+#[tactic(auto, unfolding(form::specs::Read::line, form::specs::Read::ending))]
+pub fn read_line<E: Entry>(s: &[u8], at: usize, name: &[u8]) -> Option<(E, usize)>
+    ensures { told E.value s.now result ≡ line name.now E.reads (drop at s.now) }
 {
-    let Place::At(a) = scan::read_word(s, at, name) else {
-        return Pair::NotPair;
-    };
-    let Pair::Pair(k, t, b) = read_pair(s, a) else {
-        return Pair::NotPair;
-    };
-    let Place::At(n) = scan::read_mark(s, b, 10) else {
-        return Pair::NotPair;
-    };
-    Pair::Pair(k, t, n)
+    let start = scan::read_word(s, at, name)?;
+    let (entry, end) = E::read(s, start)?;
+    let next = scan::read_mark(s, end, b'\n')?;
+    Some((entry, next))
 }
 
 // As many lines of this name as there are, at most 512.
-fn count_rows(s: &[u8], from: usize, name: &[u8]) -> Section
-    ensures { Counted s.now (line name.now row) from result }
+fn count_lines<E: Entry>(s: &[u8], first: usize, name: &[u8]) -> Section
+    ensures { Counted s.now (line name.now E.reads) first result }
 {
-    let mut at = from;
-    let mut n: usize = 0;
-    while n < MOST_LINES {
-        let Row::Row(_, _, _, _, next) = row_line(s, at, name) else {
-            return Section {
-                first: from,
-                count: n,
-                next: at,
-            };
+    let mut next = first;
+    for count in 0..MOST_LINES {
+        let Some((_, after)) = read_line::<E>(s, next, name) else {
+            return Section { first, count, next };
         };
-        n += 1;
-        at = next;
+        next = after;
     }
     Section {
-        first: from,
-        count: n,
-        next: at,
-    }
-}
-
-fn count_pairs(s: &[u8], from: usize, name: &[u8]) -> Section
-    ensures { Counted s.now (line name.now pair) from result }
-{
-    let mut at = from;
-    let mut n: usize = 0;
-    while n < MOST_LINES {
-        let Pair::Pair(_, _, next) = pair_line(s, at, name) else {
-            return Section {
-                first: from,
-                count: n,
-                next: at,
-            };
-        };
-        n += 1;
-        at = next;
-    }
-    Section {
-        first: from,
-        count: n,
-        next: at,
+        first,
+        count: MOST_LINES,
+        next,
     }
 }
 
@@ -153,15 +134,15 @@ fn count_pairs(s: &[u8], from: usize, name: &[u8]) -> Section
 pub fn find_sections(s: &[u8], from: usize) -> Lines
     ensures { SectionsStand s.now (sections (drop from s.now)) result }
 {
-    let a = count_rows(s, from, b"old=");
-    let b = count_rows(s, a.next, b"new=");
-    let e = count_rows(s, b.next, b"out=");
-    let f = count_pairs(s, e.next, b"pend=");
+    let old = count_lines::<Record>(s, from, b"old=");
+    let new = count_lines::<Record>(s, old.next, b"new=");
+    let out = count_lines::<Record>(s, new.next, b"out=");
+    let pending = count_lines::<Pending>(s, out.next, b"pend=");
     Lines {
-        old: a,
-        new: b,
-        out: e,
-        pending: f,
+        old,
+        new,
+        out,
+        pending,
     }
 }
 
@@ -176,42 +157,39 @@ fn read_rows(
     times: &mut [u64],
     diffs: &mut [i64],
 )
-    requires most_in_bounds { most ≤ length keys.old }
-    requires most_in_bounds_2 { most ≤ length values.old }
-    requires most_in_bounds_3 { most ≤ length times.old }
-    requires most_in_bounds_4 { most ≤ length diffs.old }
+    requires room_keys { most ≤ length keys.old }
+    requires room_values { most ≤ length values.old }
+    requires room_times { most ≤ length times.old }
+    requires room_diffs { most ≤ length diffs.old }
     ensures { RowsRead (many (line name.now row) most (drop from s.now)).0 keys.old values.old times.old diffs.old keys.new values.new times.new diffs.new }
 {
-    let mut at = from;
-    let mut n: usize = 0;
-    while n < most {
-        let Row::Row(k, v, t, d, next) = row_line(s, at, name) else {
+    let mut next = from;
+    for n in 0..most {
+        let Some((record, after)) = read_line::<Record>(s, next, name) else {
             return;
         };
-        keys[n] = k.0;
-        values[n] = v.0;
-        times[n] = t.0;
-        diffs[n] = d;
-        n += 1;
-        at = next;
+        keys[n] = record.key.0;
+        values[n] = record.value.0;
+        times[n] = record.time.0;
+        diffs[n] = record.diff;
+        next = after;
     }
 }
 
+// The same of keys and times. It stays apart from read_rows, since each lends columns of its own and one loop for both would pass a closure that writes them.
 fn read_pairs(s: &[u8], from: usize, name: &[u8], most: usize, keys: &mut [u64], times: &mut [u64])
-    requires most_in_bounds { most ≤ length keys.old }
-    requires most_in_bounds_2 { most ≤ length times.old }
+    requires room_keys { most ≤ length keys.old }
+    requires room_times { most ≤ length times.old }
     ensures { PairsRead (many (line name.now pair) most (drop from s.now)).0 keys.old times.old keys.new times.new }
 {
-    let mut at = from;
-    let mut n: usize = 0;
-    while n < most {
-        let Pair::Pair(k, t, next) = pair_line(s, at, name) else {
+    let mut next = from;
+    for n in 0..most {
+        let Some((pending, after)) = read_line::<Pending>(s, next, name) else {
             return;
         };
-        keys[n] = k.0;
-        times[n] = t.0;
-        n += 1;
-        at = next;
+        keys[n] = pending.key.0;
+        times[n] = pending.time.0;
+        next = after;
     }
 }
 
@@ -225,25 +203,26 @@ pub fn store_rows(
     times: &mut [u64],
     diffs: &mut [i64],
 )
-    requires count_in_bounds { x.count ≤ length keys.old }
-    requires count_in_bounds_2 { x.count ≤ length values.old }
-    requires count_in_bounds_3 { x.count ≤ length times.old }
-    requires count_in_bounds_4 { x.count ≤ length diffs.old }
+    requires room_keys { x.count ≤ length keys.old }
+    requires room_values { x.count ≤ length values.old }
+    requires room_times { x.count ≤ length times.old }
+    requires room_diffs { x.count ≤ length diffs.old }
     ensures { RowsStored (many (line name.now row) x.count (drop x.first s.now)).0 keys.old values.old times.old diffs.old keys.new values.new times.new diffs.new }
 {
-    slices::clear(keys);
-    slices::clear(values);
-    slices::clear(times);
-    slices::clear_diffs(diffs);
+    keys.fill(0);
+    values.fill(0);
+    times.fill(0);
+    diffs.fill(0);
     read_rows(s, x.first, name, x.count, keys, values, times, diffs);
 }
 
+// The same of a key and a time.
 pub fn store_pairs(s: &[u8], x: Section, name: &[u8], keys: &mut [u64], times: &mut [u64])
-    requires count_in_bounds { x.count ≤ length keys.old }
-    requires count_in_bounds_2 { x.count ≤ length times.old }
+    requires room_keys { x.count ≤ length keys.old }
+    requires room_times { x.count ≤ length times.old }
     ensures { PairsStored (many (line name.now pair) x.count (drop x.first s.now)).0 keys.old times.old keys.new times.new }
 {
-    slices::clear(keys);
-    slices::clear(times);
+    keys.fill(0);
+    times.fill(0);
     read_pairs(s, x.first, name, x.count, keys, times);
 }

@@ -1,22 +1,19 @@
 -- The loop over the rounds of a key by a collapsed replay.
 --
 -- rounds_left: the rounds that are left to a key that stands somewhere
--- Playing: the first j rounds are settled, and the others are still to come. playing_start, playing_more, playing_kept, playing_end: the loop keeps that, and all
--- lengths. playing_fits, playing_turn, playing_mark: what a round asks. playing_less: the loop ends
+-- Playing: the first j rounds are settled, and the others are still to come. playing_start, playing_more, playing_end: the loop keeps that
+-- playing_turn, playing_mark: what a round asks. playing_over: a round whose corrections are too large
 use Prim.Native.Nat.{ℕ, zero, suc, ◌+◌, ◌-◌, ◌*◌, ◌^◌, ◌<◌, ◌≤◌}
 use native.Mathlib.Nat.{not-suc-le-zero, le_of_suc-le-suc}
 use native.Mathlib.Omega.{arith}
-use mathlib.Core.Bool.{Bool, true, false, ◌&&◌, not}
+use mathlib.Core.Bool.{true, false}
 use mathlib.Core.Path.{◌≡◌, refl, sym, ◌∙◌, ap, subst}
 use mathlib.Core.List.{List, [], ◌∷◌, ◌++◌}
-use lib.Dec.{ltb}
 use lib.IntN.{ℤ, nat_abs}
 use lib.ListN.{length, take, drop, get_or, drop_of_length-le}
 use lib.Seq.{get_or-take}
-use borrow.Author.Tests.{ltb-true, ltb-false, not-true}
-use Rattle.grid.specs.Lists.{past}
+use Rattle.grid.specs.Lists.{flat, past}
 use Rattle.grid.specs.Times.{below}
-use Rattle.grid.proofs.Tests.{by-test, clash, and_l, and_r}
 use Rattle.grid.proofs.Lists.{All}
 use Rattle.grid.proofs.Loops.{drop_more}
 use Rattle.grid.proofs.Sizes.{mass}
@@ -26,13 +23,14 @@ use Rattle.backends.specs.Segments.{part}
 use Rattle.moments.specs.Present.{edits}
 use Rattle.moments.proofs.Columns.{edits_long}
 use Rattle.marks.specs.Marks.{marked_at}
-use Rattle.fixing.specs.Settle.{LentFixes, LentSums, KeySettled}
-use Rattle.fixing.proofs.Left.{Left, left_start, left_more, left_end, left_marks}
+use Rattle.slots.specs.Slots.{rows_in, rows_too_large}
+use Rattle.fixing.specs.Settle.{LentFixes, LentSums, KeySettled, KeyOver}
+use Rattle.fixing.proofs.Left.{Left, left_start, left_more, left_over, left_end, left_marks}
 use Rattle.gather.specs.Meets.{meet_of, meets_of}
 use Rattle.gather.specs.Loads.{Timely}
 use Rattle.gather.specs.Gather.{up_to}
 use Rattle.gather.proofs.Under.{meet-under}
-use Rattle.replay.specs.Replay.{Staged, TurnAsks, TurnTaken, RoundsAsk, input_now, output_now}
+use Rattle.replay.specs.Replay.{Staged, TurnAsks, TurnTaken, TurnOver, RoundsAsk, input_now, output_now}
 use Rattle.replay.specs.declared.Stage.{Stage}
 use Rattle.replay.proofs.Turning.{turn_rounds}
 
@@ -49,25 +47,11 @@ meets_under moments far j e h =
     subst (λ m. All (λ u. below m u ≡ true) (drop j moments)) (sym q) (meet-under (drop j moments))
 
 -- ---- a round
--- where the corrections are too large, nothing is promised of the rounds that are left
-left_any : {most k : ℕ} {all left left' : List Round} {j n r : ℕ} {large : Bool} {marks₀ marks fk₀ fv₀ ft₀ : List ℕ} {fd₀ : List ℤ} {fk fv ft : List ℕ} {fd : List ℤ}
-    → large ≡ true → Left most k all left j n r large marks₀ marks fk₀ fv₀ ft₀ fd₀ fk fv ft fd → Left most k all left' j n r large marks₀ marks fk₀ fv₀ ft₀ fd₀ fk fv ft fd
-left_any {large = large} h l = record {
-  over = l.over;
-  large_is = λ e. clash large h e;
-  fixes_are = λ e. clash large h e;
-  rows_are = λ e. clash large h e;
-  marks_are = λ e. clash large h e;
-  long_marks = l.long_marks;
-  fits = λ e. clash large h e;
-}
-
 -- the rounds that are left
 abbrev pub rounds_left : ℕ → ℕ → List Edit → List Edit → List Edit → List ℕ → ℕ → Stage → List Round
 rounds_left mode e ss xs us moments j w = settle mode (take w.held xs ++ part w.at e xs) (take w.output us ++ drop w.out ss) (drop j moments)
 
-module _ {most mode k t m e : ℕ} {ss xs us : List Edit} {w r : Stage} {xs' us' : List Edit} {fk fv ft : List ℕ} {fd : List ℤ} {fk' fv' ft' : List ℕ} {fd' : List ℤ}
-    (d : TurnTaken most mode k t m e ss xs us w r xs' us' fk fv ft fd fk' fv' ft' fd') (s : Staged most e ss xs us w) (moments : List ℕ) (j : ℕ)
+module _ (mode k m : ℕ) {most t e : ℕ} {ss xs us : List Edit} {w : Stage} (s : Staged most e ss xs us w) (moments : List ℕ) (j : ℕ)
     (h : j < length moments) (a : t ≡ get_or moments j 0) (b : All (λ u. below m u ≡ true) (drop j moments)) where
   abbrev I : List Edit
   I = input_now t m e xs w
@@ -90,26 +74,28 @@ module _ {most mode k t m e : ℕ} {ss xs us : List Edit} {w r : Stage} {xs' us'
       ∙ turn_rounds mode t m (take w.held xs) (part w.at e xs) (take w.output us) (drop w.out ss) (drop (j + 1) moments)
       (subst (All (λ u. below m u ≡ true)) moments_are b) s.input_timely s.output_timely
 
-  later_is : r.large ≡ false → rest ≡ rounds_left mode e ss xs' us' moments (j + 1) r
-  later_is l =
-      let p = sym d.held_is in
-      let q = sym d.ahead_is in
-      let u = sym (d.output_is l) in
-      let v = sym d.out_is in
-      λ z. settle mode (p z ++ q z) (u z ++ v z) (drop (j + 1) moments)
+  turn_over : {all : List Round} {n : ℕ} {marks₀ marks fk₀ fv₀ ft₀ : List ℕ} {fd₀ : List ℤ} {fk fv ft : List ℕ} {fd : List ℤ}
+      → Left most k all (rounds_left mode e ss xs us moments j w) j n w.fixes marks₀ marks fk₀ fv₀ ft₀ fd₀ fk fv ft fd → TurnOver most mode k t m e ss xs us w
+      → rows_too_large most n (flat (rows_in k) all) ≡ true
+  turn_over {all} {n} {marks₀} {marks} {fk₀} {fv₀} {ft₀} {fd₀} {fk} {fv} {ft} {fd} l o =
+      left_over (subst (λ (y : List Round). Left most k all y j n w.fixes marks₀ marks fk₀ fv₀ ft₀ fd₀ fk fv ft fd) left_is l) o
 
-  turn_left : {all : List Round} {n : ℕ} {marks₀ marks marks' fk₀ fv₀ ft₀ : List ℕ} {fd₀ : List ℤ}
-      → w.large ≡ false → Left most k all (rounds_left mode e ss xs us moments j w) j n w.fixes w.large marks₀ marks fk₀ fv₀ ft₀ fd₀ fk fv ft fd
-      → j < length marks → marks' ≡ marked_at r.crossed j marks
-      → Left most k all (rounds_left mode e ss xs' us' moments (j + 1) r) (j + 1) n r.fixes r.large marks₀ marks' fk₀ fv₀ ft₀ fd₀ fk' fv' ft' fd'
-  turn_left {all} {n} {marks₀} {marks} {marks'} {fk₀} {fv₀} {ft₀} {fd₀} o l c q =
-      let l₁ : Left most k all (x ∷ rest) j n w.fixes false marks₀ marks fk₀ fv₀ ft₀ fd₀ fk fv ft fd =
-      subst (λ (y : Bool). Left most k all (x ∷ rest) j n w.fixes y marks₀ marks fk₀ fv₀ ft₀ fd₀ fk fv ft fd) o
-      (subst (λ (y : List Round). Left most k all y j n w.fixes w.large marks₀ marks fk₀ fv₀ ft₀ fd₀ fk fv ft fd) left_is l) in
-      let m₁ : marks' ≡ marked_at x.crossed j marks = q ∙ ap (λ y. marked_at y j marks) d.crossed_is in
-      by-test r.large
-      (λ y. left_any y (left_more l₁ d.listed c m₁ refl))
-      (λ y. left_more l₁ d.listed c m₁ (later_is y))
+  module _ {r : Stage} {xs' us' : List Edit} {fk fv ft : List ℕ} {fd : List ℤ} {fk' fv' ft' : List ℕ} {fd' : List ℤ} (d : TurnTaken most mode k t m e ss xs us w r xs' us' fk fv ft fd fk' fv' ft' fd') where
+    later_is : rest ≡ rounds_left mode e ss xs' us' moments (j + 1) r
+    later_is =
+        let p = sym d.held_is in
+        let q = sym d.ahead_is in
+        let u = sym d.output_is in
+        let v = sym d.out_is in
+        λ z. settle mode (p z ++ q z) (u z ++ v z) (drop (j + 1) moments)
+
+    turn_left : {all : List Round} {n : ℕ} {marks₀ marks marks' fk₀ fv₀ ft₀ : List ℕ} {fd₀ : List ℤ}
+        → Left most k all (rounds_left mode e ss xs us moments j w) j n w.fixes marks₀ marks fk₀ fv₀ ft₀ fd₀ fk fv ft fd
+        → j < length marks → marks' ≡ marked_at r.crossed j marks
+        → Left most k all (rounds_left mode e ss xs' us' moments (j + 1) r) (j + 1) n r.fixes marks₀ marks' fk₀ fv₀ ft₀ fd₀ fk' fv' ft' fd'
+    turn_left {all} {n} {marks₀} {marks} {marks'} {fk₀} {fv₀} {ft₀} {fd₀} l c q =
+        left_more (subst (λ (y : List Round). Left most k all y j n w.fixes marks₀ marks fk₀ fv₀ ft₀ fd₀ fk fv ft fd) left_is l) d.listed c
+        (q ∙ ap (λ y. marked_at y j marks) d.crossed_is) later_is
 
 -- ---- the loop
 pub record Playing (most mode k : ℕ) (moments far : List ℕ) (e : ℕ) (sv st : List ℕ) (sd : List ℤ) (xv₀ xt₀ : List ℕ) (xd₀ : List ℤ) (uv₀ ut₀ : List ℕ) (ud₀ : List ℤ) (iv₀ : List ℕ) (id₀ : List ℤ) (ov₀ : List ℕ) (od₀ : List ℤ) (cv₀ : List ℕ) (cd₀ : List ℤ) (marks₀ fk₀ fv₀ ft₀ : List ℕ) (fd₀ : List ℤ) (fixes : ℕ)
@@ -123,13 +109,13 @@ pub record Playing (most mode k : ℕ) (moments far : List ℕ) (e : ℕ) (sv st
   pub long_ud : length ud ≡ most + most
   pub sums : LentSums most iv ov id od cv cd
   pub lent : LentFixes most fk fv ft fd
-  pub left : Left most k (settle mode (take e (edits xv₀ xt₀ xd₀)) (edits sv st sd) moments) (rounds_left mode e (edits sv st sd) (edits xv xt xd) (edits uv ut ud) moments j w) j fixes w.fixes w.large marks₀ marks fk₀ fv₀ ft₀ fd₀ fk fv ft fd
-  pub staged : w.large ≡ false → Staged most e (edits sv st sd) (edits xv xt xd) (edits uv ut ud) w
+  pub left : Left most k (settle mode (take e (edits xv₀ xt₀ xd₀)) (edits sv st sd) moments) (rounds_left mode e (edits sv st sd) (edits xv xt xd) (edits uv ut ud) moments j w) j fixes w.fixes marks₀ marks fk₀ fv₀ ft₀ fd₀ fk fv ft fd
+  pub staged : Staged most e (edits sv st sd) (edits xv xt xd) (edits uv ut ud) w
 
 module _ {most : ℕ} (mode k : ℕ) {moments far : List ℕ} {e : ℕ} {sv st : List ℕ} {sd : List ℤ} {xv xt : List ℕ} {xd : List ℤ} {uv ut : List ℕ} {ud : List ℤ} {iv : List ℕ} {id : List ℤ} {ov : List ℕ} {od : List ℤ} {cv : List ℕ} {cd : List ℤ} {marks fk fv ft : List ℕ} {fd : List ℤ} {fixes : ℕ}
     (x : RoundsAsk most moments far e sv st sd xv xt xd uv ut ud iv id ov od cv cd marks fk fv ft fd fixes) where
   pub playing_start : Playing most mode k moments far e sv st sd xv xt xd uv ut ud iv id ov od cv cd marks fk fv ft fd fixes xv xt xd uv ut ud iv id ov od cv cd marks fk fv ft fd 0
-      (record { held = 0; at = 0; output = 0; out = 0; crossed = false; fixes = fixes; large = false })
+      (record { held = 0; at = 0; output = 0; out = 0; crossed = false; fixes = fixes })
   playing_start =
       let z : e ≡ e - 0 = omega arith in
       let n : length (edits sv st sd) ≡ length sv = edits_long sv st sd x.same_st x.same_sd in
@@ -145,9 +131,9 @@ module _ {most : ℕ} (mode k : ℕ) {moments far : List ℕ} {e : ℕ} {sv st :
         long_ud = x.memory.long_ud;
         sums = x.memory.sums;
         lent = x.memory.lent;
-        left = subst (λ (i : ℕ). Left most k (settle mode (take e (edits xv xt xd)) (edits sv st sd) moments) (settle mode (take i (edits xv xt xd)) (edits sv st sd) moments) 0 fixes fixes false marks marks fk fv ft fd fk fv ft fd) z
+        left = subst (λ (i : ℕ). Left most k (settle mode (take e (edits xv xt xd)) (edits sv st sd) moments) (settle mode (take i (edits xv xt xd)) (edits sv st sd) moments) 0 fixes fixes marks marks fk fv ft fd fk fv ft fd) z
             (left_start x.memory.fits);
-        staged = λ h. record {
+        staged = record {
           before = omega arith;
           forth = omega arith;
           within = x.input_few;
@@ -164,23 +150,7 @@ module _ {most : ℕ} (mode k : ℕ) {moments far : List ℕ} {e : ℕ} {sv st :
 module _ {most mode k : ℕ} {moments far : List ℕ} {e : ℕ} {sv st : List ℕ} {sd : List ℤ} {xv₀ xt₀ : List ℕ} {xd₀ : List ℤ} {uv₀ ut₀ : List ℕ} {ud₀ : List ℤ} {iv₀ : List ℕ} {id₀ : List ℤ} {ov₀ : List ℕ} {od₀ : List ℤ} {cv₀ : List ℕ} {cd₀ : List ℤ} {marks₀ fk₀ fv₀ ft₀ : List ℕ} {fd₀ : List ℤ} {fixes : ℕ}
     {xv xt : List ℕ} {xd : List ℤ} {uv ut : List ℕ} {ud : List ℤ} {iv : List ℕ} {id : List ℤ} {ov : List ℕ} {od : List ℤ} {cv : List ℕ} {cd : List ℤ} {marks fk fv ft : List ℕ} {fd : List ℤ} {j : ℕ} {w : Stage}
     (g : Playing most mode k moments far e sv st sd xv₀ xt₀ xd₀ uv₀ ut₀ ud₀ iv₀ id₀ ov₀ od₀ cv₀ cd₀ marks₀ fk₀ fv₀ ft₀ fd₀ fixes xv xt xd uv ut ud iv id ov od cv cd marks fk fv ft fd j w) where
-  module _ (t : (not w.large && ltb j (length moments)) ≡ true) where
-    before : j < length moments
-    before = ltb-true j (length moments) (and_r (not w.large) (ltb j (length moments)) t)
-
-    open_yet : w.large ≡ false
-    open_yet = not-true w.large (and_l (not w.large) (ltb j (length moments)) t)
-
-    pub playing_fits : (j * 8 < 2 ^ 64) × ((j < length moments) × ((j < length far) × (j + 1 < 2 ^ 64)))
-    playing_fits =
-        let a : j < length moments = before in
-        let b : length moments ≤ 1024 = g.asks.few in
-        let c : length moments ≤ length far = g.asks.room_far in
-        (omega (arith, a, b), (a, (omega (arith, a, c), omega (arith, a, b))))
-
-    pub playing_less : length moments - (j + 1) < length moments - j
-    playing_less = let a : j < length moments = before in omega (arith, a)
-
+  module _ (t : j < length moments) where
     pub playing_turn : TurnAsks (length fk) e sv st sd xv xt xd uv ut ud iv id ov od cv cd fk fv ft fd w
     playing_turn =
         subst (λ (i : ℕ). TurnAsks i e sv st sd xv xt xd uv ut ud iv id ov od cv cd fk fv ft fd w) (sym g.lent.long_k)
@@ -196,16 +166,17 @@ module _ {most mode k : ℕ} {moments far : List ℕ} {e : ℕ} {sv st : List �
           sums = g.sums;
           lent = g.lent;
           room_few = g.asks.memory.room_few;
-          staged = g.staged open_yet;
+          staged = g.staged;
         })
 
     pub playing_mark : j < length marks
-    playing_mark =
-        let a : j < length moments = before in
-        let b : length moments ≤ 1024 = g.asks.few in
-        let c : length marks ≡ length marks₀ = g.left.long_marks in
-        let d : length marks₀ ≡ 1024 = g.asks.memory.long_marks in
-        omega (arith, a, b, c, d)
+    playing_mark = omega (arith, g.asks.few, g.left.long_marks, g.asks.memory.long_marks)
+
+    pub playing_over : TurnOver (length fk) mode k (get_or moments j 0) (get_or far j 0) e (edits sv st sd) (edits xv xt xd) (edits uv ut ud) w
+        → KeyOver most mode k (take e (edits xv₀ xt₀ xd₀)) (edits sv st sd) moments fixes
+    playing_over o =
+        turn_over mode k (get_or far j 0) g.staged moments j t refl (meets_under moments far j g.asks.meets_are t) g.left
+        (subst (λ (i : ℕ). TurnOver i mode k (get_or moments j 0) (get_or far j 0) e (edits sv st sd) (edits xv xt xd) (edits uv ut ud) w) g.lent.long_k o)
 
     pub playing_more : {r : Stage} {xv' xt' : List ℕ} {xd' : List ℤ} {uv' ut' : List ℕ} {ud' : List ℤ} {iv' : List ℕ} {id' : List ℤ} {ov' : List ℕ} {od' : List ℤ} {cv' : List ℕ} {cd' : List ℤ} {marks' fk' fv' ft' : List ℕ} {fd' : List ℤ}
         → TurnTaken (length fk) mode k (get_or moments j 0) (get_or far j 0) e (edits sv st sd) (edits xv xt xd) (edits uv ut ud) w r (edits xv' xt' xd') (edits uv' ut' ud') fk fv ft fd fk' fv' ft' fd'
@@ -227,22 +198,13 @@ module _ {most mode k : ℕ} {moments far : List ℕ} {e : ℕ} {sv st : List �
           long_ud = lud ∙ g.long_ud;
           sums = record { long_iv = liv ∙ g.sums.long_iv; long_ov = lov ∙ g.sums.long_ov; long_id = lid ∙ g.sums.long_id; long_od = lod ∙ g.sums.long_od; long_cv = lcv ∙ g.sums.long_cv; long_cd = lcd ∙ g.sums.long_cd };
           lent = record { long_k = lfk ∙ g.lent.long_k; long_v = lfv ∙ g.lent.long_v; long_t = lft ∙ g.lent.long_t; long_d = lfd ∙ g.lent.long_d };
-          left = turn_left d (g.staged open_yet) moments j before refl (meets_under moments far j g.asks.meets_are before) open_yet g.left playing_mark q;
+          left = turn_left mode k (get_or far j 0) g.staged moments j t refl (meets_under moments far j g.asks.meets_are t) d g.left playing_mark q;
           staged = d.staged;
         }
 
-  pub playing_kept : (length xv ≡ length xv₀) × ((length xt ≡ length xt₀) × ((length xd ≡ length xd₀) × ((length uv ≡ length uv₀) × ((length ut ≡ length ut₀) × ((length ud ≡ length ud₀) × ((length iv ≡ length iv₀) × ((length id ≡ length id₀) × ((length ov ≡ length ov₀) × ((length od ≡ length od₀) × ((length cv ≡ length cv₀) × ((length cd ≡ length cd₀) × ((length marks ≡ length marks₀) × ((length fk ≡ length fk₀) × ((length fv ≡ length fv₀) × ((length ft ≡ length ft₀) × (length fd ≡ length fd₀))))))))))))))))
-  playing_kept =
-      let a = g.asks in
-      let m = a.memory in
-      (g.long_xv ∙ sym a.long_xv, (g.long_xt ∙ sym a.long_xt, (g.long_xd ∙ sym a.long_xd, (g.long_uv ∙ sym m.long_uv, (g.long_ut ∙ sym m.long_ut, (g.long_ud ∙ sym m.long_ud, (g.sums.long_iv ∙ sym m.sums.long_iv, (g.sums.long_id ∙ sym m.sums.long_id, (g.sums.long_ov ∙ sym m.sums.long_ov, (g.sums.long_od ∙ sym m.sums.long_od, (g.sums.long_cv ∙ sym m.sums.long_cv, (g.sums.long_cd ∙ sym m.sums.long_cd, (g.left.long_marks, (g.lent.long_k ∙ sym m.lent.long_k, (g.lent.long_v ∙ sym m.lent.long_v, (g.lent.long_t ∙ sym m.lent.long_t, g.lent.long_d ∙ sym m.lent.long_d))))))))))))))))
-
-  none_left : (not w.large && ltb j (length moments)) ≡ false → w.large ≡ false → rounds_left mode e (edits sv st sd) (edits xv xt xd) (edits uv ut ud) moments j w ≡ []
+  none_left : length moments ≤ j → rounds_left mode e (edits sv st sd) (edits xv xt xd) (edits uv ut ud) moments j w ≡ []
   unfolding settle
-  none_left t l =
-      let a : length moments ≤ j = ltb-false j (length moments) (sym (ap (λ b. not b && ltb j (length moments)) l) ∙ t) in
-      ap (settle mode (take w.held (edits xv xt xd) ++ part w.at e (edits xv xt xd)) (take w.output (edits uv ut ud) ++ drop w.out (edits sv st sd))) (drop_of_length-le moments a)
+  none_left t = ap (settle mode (take w.held (edits xv xt xd) ++ part w.at e (edits xv xt xd)) (take w.output (edits uv ut ud) ++ drop w.out (edits sv st sd))) (drop_of_length-le moments t)
 
-  pub playing_end : (not w.large && ltb j (length moments)) ≡ false
-      → KeySettled most mode k (take e (edits xv₀ xt₀ xd₀)) (edits sv st sd) moments fixes (record { fixes = w.fixes; large = w.large }) marks₀ marks fk₀ fv₀ ft₀ fd₀ fk fv ft fd
-  playing_end t = record { listed = left_end g.left (none_left t); marks_are = left_marks g.left (none_left t) }
+  pub playing_end : {r : ℕ} → length moments ≤ j → r ≡ w.fixes → KeySettled most mode k (take e (edits xv₀ xt₀ xd₀)) (edits sv st sd) moments fixes r marks₀ marks fk₀ fv₀ ft₀ fd₀ fk fv ft fd
+  playing_end t q = rw q (record { listed = left_end g.left (none_left t); marks_are = left_marks g.left (none_left t) })

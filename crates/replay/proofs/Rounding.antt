@@ -2,7 +2,7 @@
 --
 -- gather_input, gather_output: what gathering asks. input_bounds, show_input, output_bounds, show_output: what showing what is held asks then
 -- adds_fit: what is seen can be counted. nothing_taken: what the round leaves where nothing is seen
--- fix_asks: what settling what is seen asks. large_taken: what the round leaves where the corrections become too large
+-- fix_asks: what settling what is seen asks. over_taken: what the round leaves where the corrections become too large
 -- date_asks: what appending the correction to the output asks. fixed_taken: what that leaves
 use Prim.Native.Nat.{ℕ, ◌+◌, ◌-◌, ◌*◌, ◌^◌, ◌≤◌, ◌<◌}
 use native.Mathlib.Omega.{arith}
@@ -14,7 +14,7 @@ use lib.IntN.{ℤ, nat_abs}
 use lib.ListN.{length, take, drop, length-map, length-take}
 use lib.Seq.{length-take-le}
 use Rattle.grid.specs.Lists.{past}
-use Rattle.grid.proofs.Tests.{by-test, clash}
+use Rattle.grid.proofs.Tests.{by-test}
 use Rattle.grid.proofs.Lists.{All, all_map}
 use Rattle.grid.proofs.Operations.{no_length}
 use Rattle.grid.proofs.Sizes.{mass, mass-append, mass_most}
@@ -35,7 +35,7 @@ use Rattle.rounds.specs.Merges.{Rows}
 use Rattle.slots.specs.Slots.{rows_in, rows_too_large}
 use Rattle.slots.proofs.Large.{not_large}
 use Rattle.fixing.specs.Fixes.{fix_rows}
-use Rattle.fixing.specs.Settle.{Fixes, FixedAt}
+use Rattle.fixing.specs.Settle.{Fixes, FixedAt, OverAt}
 use Rattle.fixing.specs.declared.Fixed.{Fixed}
 use Rattle.fixing.proofs.Left.{listed}
 use Rattle.fixing.proofs.Corrected.{held_diffs, held_entries, rows_fixed, rows-length, fixes_fit, fixes_small}
@@ -43,7 +43,7 @@ use Rattle.gather.specs.Loads.{Timely}
 use Rattle.gather.specs.Gather.{up_to, Within, WithinDone, From, FromDone, Dates}
 use Rattle.gather.specs.declared.Held.{Held}
 use Rattle.gather.proofs.Columns.{rows_front}
-use Rattle.replay.specs.Replay.{Staged, TurnAsks, TurnTaken, input_now, output_now}
+use Rattle.replay.specs.Replay.{Staged, TurnAsks, TurnTaken, TurnOver, input_now, output_now}
 use Rattle.replay.specs.declared.Stage.{Stage}
 
 -- ---- edits
@@ -252,12 +252,12 @@ module _ {most e : ℕ} {sv st : List ℕ} {sd : List ℤ} {xv xt : List ℕ} {x
           shows_front u.count uv₁ ut₁ ud₁ ov₂ od₂ (luv ∙ x.long_uv) (lut ∙ x.long_ut) (lud ∙ x.long_ud) (lo ∙ x.sums.long_ov) (ld ∙ x.sums.long_od) twice_few (omega (arith, k, y)) (omega (arith, k, y)) f.held_ascends (omega (arith, l, z))
 
       -- where the key stands after the round, with j edits of its output held and n corrections
-      abbrev past_round : ℕ → Bool → ℕ → Bool → Stage
-      past_round j c n l = record { held = h.count; at = h.at; output = j; out = u.at; crossed = c; fixes = n; large = l }
+      abbrev past_round : ℕ → Bool → ℕ → Stage
+      past_round j c n = record { held = h.count; at = h.at; output = j; out = u.at; crossed = c; fixes = n }
 
-      stands : (U₃ : List Edit) (j n : ℕ) (c l : Bool) → j + (length S - u.at) ≤ most + n → mass nat_abs (take j U₃) + mass nat_abs (drop u.at S) ≤ (4096 + n) * 2 ^ 31 → n ≤ most
-          → Staged most e S X₁ U₃ (past_round j c n l)
-      stands U₃ j n c l few light fits = record {
+      stands : (U₃ : List Edit) (j n : ℕ) (c : Bool) → j + (length S - u.at) ≤ most + n → mass nat_abs (take j U₃) + mass nat_abs (drop u.at S) ≤ (4096 + n) * 2 ^ 31 → n ≤ most
+          → Staged most e S X₁ U₃ (past_round j c n)
+      stands U₃ j n c few light fits = record {
         before = g.before;
         forth = g.forth;
         within = x.staged.within;
@@ -315,7 +315,7 @@ module _ {most e : ℕ} {sv st : List ℕ} {sd : List ℤ} {xv xt : List ℕ} {x
 
         -- ---- where nothing is seen
         pub nothing_taken : (mode k : ℕ) → a + b ≡ 0
-            → TurnTaken most mode k t m e (edits sv st sd) (edits xv xt xd) (edits uv ut ud) w (record { held = h.count; at = h.at; output = u.count; out = u.at; crossed = false; fixes = w.fixes; large = false })
+            → TurnTaken most mode k t m e (edits sv st sd) (edits xv xt xd) (edits uv ut ud) w (record { held = h.count; at = h.at; output = u.count; out = u.at; crossed = false; fixes = w.fixes })
             (edits xv₁ xt₁ xd₁) (edits uv₁ ut₁ ud₁) fk fv ft fd fk fv ft fd
         nothing_taken mode k n =
             let i : a ≡ length (seen t I) = long_i in
@@ -332,9 +332,9 @@ module _ {most e : ℕ} {sv st : List ℕ} {sd : List ℤ} {xv xt : List ℕ} {x
               };
               held_is = g.held_is;
               ahead_is = g.ahead_is;
-              output_is = λ l. f.held_is ∙ sym (ap (λ c. O ++ dated t c) v ∙ dated_none t O);
+              output_is = f.held_is ∙ sym (ap (λ c. O ++ dated t c) v ∙ dated_none t O);
               out_is = f.ahead_is;
-              staged = λ l. stands U₁ u.count w.fixes false false output_few output_mass x.staged.fits;
+              staged = stands U₁ u.count w.fixes false output_few output_mass x.staged.fits;
             }
 
         -- ---- what is seen
@@ -378,13 +378,13 @@ module _ {most e : ℕ} {sv st : List ℕ} {sd : List ℤ} {xv xt : List ℕ} {x
             }
 
         -- ---- the correction
-        module _ (n : a + b ≡ 0 → ⊥) (mode : ℕ) {k : ℕ} {cv₂ cv₃ : List ℕ} {cd₃ : List ℤ} {r : Fixed} {fk₃ fv₃ ft₃ : List ℕ} {fd₃ : List ℤ}
-            (F : FixedAt most k t (correction mode (entries (take (a - 0) iv₃) (take (a - 0) id₃)) (entries (take (b - 0) ov₃) (take (b - 0) od₃))) cv₂ cd w.fixes r cv₃ cd₃ fk fv ft fd fk₃ fv₃ ft₃ fd₃) where
+        module _ (n : a + b ≡ 0 → ⊥) (mode k : ℕ) where
           abbrev C : Sums
           C = correction mode (seen t I) (seen t O)
 
-          fixed : FixedAt most k t (correction mode (seen t (input_now t m e (edits xv xt xd) w)) (seen t (output_now t m (edits sv st sd) (edits uv ut ud) w))) cv₂ cd w.fixes r cv₃ cd₃ fk fv ft fd fk₃ fv₃ ft₃ fd₃
-          fixed = subst (λ (c : Sums). FixedAt most k t c cv₂ cd w.fixes r cv₃ cd₃ fk fv ft fd fk₃ fv₃ ft₃ fd₃) (λ z. correction mode (held_entries seen_input z) (held_entries seen_output z)) F
+          given : correction mode (entries (take (a - 0) iv₃) (take (a - 0) id₃)) (entries (take (b - 0) ov₃) (take (b - 0) od₃))
+              ≡ correction mode (seen t (input_now t m e (edits xv xt xd) w)) (seen t (output_now t m (edits sv st sd) (edits uv ut ud) w))
+          given = λ z. correction mode (held_entries seen_input z) (held_entries seen_output z)
 
           crossing : crosses (seen t I) (seen t O) ≡ true
           crossing =
@@ -395,25 +395,20 @@ module _ {most e : ℕ} {sv st : List ℕ} {sd : List ℤ} {xv xt : List ℕ} {x
           rows_are : fix_rows k t C ≡ rows_in k (round_at mode I O t)
           rows_are = fix-rows k mode I O t crossing
 
-          pub large_taken : r.large ≡ true
-              → TurnTaken most mode k t m e (edits sv st sd) (edits xv xt xd) (edits uv ut ud) w (record { held = h.count; at = h.at; output = u.count; out = u.at; crossed = true; fixes = w.fixes; large = true })
-              (edits xv₁ xt₁ xd₁) (edits uv₁ ut₁ ud₁) fk fv ft fd fk₃ fv₃ ft₃ fd₃
-          large_taken l = record {
-            crossed_is = sym crossing ∙ crossed_is mode I O t;
-            listed = record { large_is = sym l ∙ fixed.listed.large_is ∙ ap (rows_too_large most w.fixes) rows_are; fixes_are = λ z. clash true refl z; rows_are = λ z. clash true refl z };
-            held_is = g.held_is;
-            ahead_is = g.ahead_is;
-            output_is = λ z. clash true refl z;
-            out_is = f.ahead_is;
-            staged = λ z. clash true refl z;
-          }
+          pub over_taken : {cv₂ cv₃ : List ℕ} {cd₃ : List ℤ} → OverAt most k t (correction mode (entries (take (a - 0) iv₃) (take (a - 0) id₃)) (entries (take (b - 0) ov₃) (take (b - 0) od₃))) cv₂ cd w.fixes cv₃ cd₃
+              → TurnOver most mode k t m e (edits sv st sd) (edits xv xt xd) (edits uv ut ud) w
+          over_taken o = sym (ap (λ c. rows_too_large most w.fixes (fix_rows k t c)) given ∙ ap (rows_too_large most w.fixes) rows_are) ∙ o.large_is
 
-          count_is : r.count ≡ length C
-          count_is = end_is fixed.corrected
+          module _ {cv₂ cv₃ : List ℕ} {cd₃ : List ℤ} {r : Fixed} {fk₃ fv₃ ft₃ : List ℕ} {fd₃ : List ℤ}
+              (F : FixedAt most k t (correction mode (entries (take (a - 0) iv₃) (take (a - 0) id₃)) (entries (take (b - 0) ov₃) (take (b - 0) od₃))) cv₂ cd w.fixes r cv₃ cd₃ fk fv ft fd fk₃ fv₃ ft₃ fd₃) where
+            fixed : FixedAt most k t (correction mode (seen t (input_now t m e (edits xv xt xd) w)) (seen t (output_now t m (edits sv st sd) (edits uv ut ud) w))) cv₂ cd w.fixes r cv₃ cd₃ fk fv ft fd fk₃ fv₃ ft₃ fd₃
+            fixed = subst (λ (c : Sums). FixedAt most k t c cv₂ cd w.fixes r cv₃ cd₃ fk fv ft fd fk₃ fv₃ ft₃ fd₃) given F
 
-          module _ (l : r.large ≡ false) where
+            count_is : r.count ≡ length C
+            count_is = end_is fixed.corrected
+
             small : rows_too_large most w.fixes (fix_rows k t C) ≡ false
-            small = sym fixed.listed.large_is ∙ l
+            small = sym fixed.listed.large_is
 
             room_left : w.fixes + length C ≤ most
             room_left = fixes_fit most w.fixes k t C small
@@ -436,7 +431,7 @@ module _ {most e : ℕ} {sv st : List ℕ} {sd : List ℤ} {xv xt : List ℕ} {x
                 }
 
             pub fixed_taken : (uv₃ ut₃ : List ℕ) (ud₃ : List ℤ) {j : ℕ} → Rows uv₁ ut₁ ud₁ u.count (dated t (entries (take (r.count - 0) cv₃) (take (r.count - 0) cd₃))) uv₃ ut₃ ud₃ j
-                → TurnTaken most mode k t m e (edits sv st sd) (edits xv xt xd) (edits uv ut ud) w (record { held = h.count; at = h.at; output = j; out = u.at; crossed = true; fixes = r.fixes; large = false })
+                → TurnTaken most mode k t m e (edits sv st sd) (edits xv xt xd) (edits uv ut ud) w (record { held = h.count; at = h.at; output = j; out = u.at; crossed = true; fixes = r.fixes })
                 (edits xv₁ xt₁ xd₁) (edits uv₃ ut₃ ud₃) fk fv ft fd fk₃ fv₃ ft₃ fd₃
             fixed_taken uv₃ ut₃ ud₃ {j} d₀ =
                 let d : Rows uv₁ ut₁ ud₁ u.count (dated t C) uv₃ ut₃ ud₃ j = subst (λ (c : Sums). Rows uv₁ ut₁ ud₁ u.count (dated t c) uv₃ ut₃ ud₃ j) (held_entries fixed.corrected) d₀ in
@@ -445,7 +440,7 @@ module _ {most e : ℕ} {sv st : List ℕ} {sd : List ℤ} {xv xt : List ℕ} {x
                 let je : j ≡ u.count + length (map value_of (dated t C)) = d.values.end in
                 let jm : length (map value_of (dated t C)) ≡ length (dated t C) = length-map (dated t C) value_of in
                 let jl : length (dated t C) ≡ length C = dated-length t C in
-                let nf : r.fixes ≡ w.fixes + length (fix_rows k t C) = fixed.listed.fixes_are l in
+                let nf : r.fixes ≡ w.fixes + length (fix_rows k t C) = fixed.listed.fixes_are refl in
                 let nl : length (fix_rows k t C) ≡ length C = rows-length k t C in
                 let z : w.fixes + length C ≤ most = room_left in
                 let i : u.count + (length S - u.at) ≤ most + w.fixes = output_few in
@@ -455,13 +450,13 @@ module _ {most e : ℕ} {sv st : List ℕ} {sd : List ℤ} {xv xt : List ℕ} {x
                 record {
                   crossed_is = sym crossing ∙ crossed_is mode I O t;
                   listed = record {
-                    large_is = sym l ∙ fixed.listed.large_is ∙ ap (rows_too_large most w.fixes) rows_are;
-                    fixes_are = λ y. fixed.listed.fixes_are l ∙ ap (λ rs. w.fixes + length rs) rows_are;
-                    rows_are = λ y. fixed.listed.rows_are l ∙ ap (λ rs. listed fk fv ft fd w.fixes ++ rs) rows_are;
+                    large_is = fixed.listed.large_is ∙ ap (rows_too_large most w.fixes) rows_are;
+                    fixes_are = λ y. fixed.listed.fixes_are refl ∙ ap (λ rs. w.fixes + length rs) rows_are;
+                    rows_are = λ y. fixed.listed.rows_are refl ∙ ap (λ rs. listed fk fv ft fd w.fixes ++ rs) rows_are;
                   };
                   held_is = g.held_is;
                   ahead_is = g.ahead_is;
-                  output_is = λ y. o ∙ ap (λ es. es ++ dated t C) f.held_is ∙ ap (λ c. O ++ dated t c) (fixes_are mode I O t crossing);
+                  output_is = o ∙ ap (λ es. es ++ dated t C) f.held_is ∙ ap (λ c. O ++ dated t c) (fixes_are mode I O t crossing);
                   out_is = f.ahead_is;
-                  staged = λ y. stands (edits uv₃ ut₃ ud₃) j r.fixes true false (omega (arith, je, jm, jl, nf, nl, i)) (omega (arith, ma, md, mo, nf, nl)) (omega (arith, nf, nl, z));
+                  staged = stands (edits uv₃ ut₃ ud₃) j r.fixes true (omega (arith, je, jm, jl, nf, nl, i)) (omega (arith, ma, md, mo, nf, nl)) (omega (arith, nf, nl, z));
                 }

@@ -2,9 +2,10 @@
 -- ahead up to the moment is gathered into what is held.
 --
 -- most: for how many corrections there is room
--- Staged: where a key's replay stands in its columns. TurnAsks: what a round asks. TurnTaken: what it leaves
+-- Staged: where a key's replay stands in its columns. TurnAsks: what a round asks. TurnTaken: what it leaves. TurnOver: with it the corrections
+-- are too large
 -- RoundsAsk: what all rounds ask once the key is loaded
-use Rattle.std.specs.Prelude.{ℕ, ◌+◌, ◌-◌, ◌*◌, ◌≤◌, ◌^◌, false, List, ◌++◌, ◌≡◌, ℤ, nat_abs, length, take, drop}
+use Rattle.std.specs.Prelude.{ℕ, ◌+◌, ◌-◌, ◌*◌, ◌≤◌, ◌^◌, true, false, List, ◌++◌, ◌≡◌, ℤ, nat_abs, length, take, drop}
 use Rattle.grid.specs.Lists.{past}
 use Rattle.grid.specs.Records.{most_records}
 use Rattle.grid.proofs.Sizes.{mass}
@@ -13,7 +14,7 @@ use Rattle.rules.specs.Discover.{most_moments}
 use Rattle.rules.specs.Retire.{dated, round_at}
 use Rattle.backends.specs.Segments.{part}
 use Rattle.moments.specs.Present.{edits}
-use Rattle.slots.specs.Slots.{rows_in}
+use Rattle.slots.specs.Slots.{rows_in, rows_too_large}
 use Rattle.fixing.specs.Settle.{Listed, LentFixes, LentSums}
 use Rattle.fixing.specs.Windows.{LentRounds}
 use Rattle.gather.specs.Meets.{meets_of}
@@ -59,12 +60,15 @@ module _ (t m : ℕ) (ss us : List Edit) (w : Stage) where
 
 pub record TurnTaken (most mode k t m e : ℕ) (ss xs us : List Edit) (w r : Stage) (xs' us' : List Edit) (fk₀ fv₀ ft₀ : List ℕ) (fd₀ : List ℤ) (fk fv ft : List ℕ) (fd : List ℤ) : Type 0 where
   pub crossed_is : r.crossed ≡ (round_at mode (input_now t m e xs w) (output_now t m ss us w) t).crossed
-  pub listed : Listed most (rows_in k (round_at mode (input_now t m e xs w) (output_now t m ss us w) t)) w.fixes r.large r.fixes fk₀ fv₀ ft₀ fd₀ fk fv ft fd
+  pub listed : Listed most (rows_in k (round_at mode (input_now t m e xs w) (output_now t m ss us w) t)) w.fixes false r.fixes fk₀ fv₀ ft₀ fd₀ fk fv ft fd
   pub held_is : take r.held xs' ≡ input_now t m e xs w
   pub ahead_is : part r.at e xs' ≡ past (up_to t) (part w.at e xs)
-  pub output_is : r.large ≡ false → take r.output us' ≡ output_now t m ss us w ++ dated t (round_at mode (input_now t m e xs w) (output_now t m ss us w) t).fixes
+  pub output_is : take r.output us' ≡ output_now t m ss us w ++ dated t (round_at mode (input_now t m e xs w) (output_now t m ss us w) t).fixes
   pub out_is : drop r.out ss ≡ past (up_to t) (drop w.out ss)
-  pub staged : r.large ≡ false → Staged most e ss xs' us' r
+  pub staged : Staged most e ss xs' us' r
+
+abbrev pub TurnOver : ℕ → ℕ → ℕ → ℕ → ℕ → ℕ → List Edit → List Edit → List Edit → Stage → Type 0
+TurnOver most mode k t m e ss xs us w = rows_too_large most w.fixes (rows_in k (round_at mode (input_now t m e xs w) (output_now t m ss us w) t)) ≡ true
 
 pub record RoundsAsk (most : ℕ) (moments far : List ℕ) (e : ℕ) (sv st : List ℕ) (sd : List ℤ) (xv xt : List ℕ) (xd : List ℤ) (uv ut : List ℕ) (ud : List ℤ) (iv : List ℕ) (id : List ℤ) (ov : List ℕ) (od : List ℤ) (cv : List ℕ) (cd : List ℤ) (marks fk fv ft : List ℕ) (fd : List ℤ) (fixes : ℕ) : Type 0 where
   pub few : length moments ≤ most_moments

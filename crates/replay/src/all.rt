@@ -1,17 +1,17 @@
 // All rounds of a key, once it is loaded.
-ghost use Rattle.std.specs.Prelude.{length, take};
+ghost use Rattle.std.specs.Prelude.{length, take, MatchResult};
 ghost use Rattle.moments.specs.Present.{edits};
-ghost use Rattle.fixing.specs.Settle.{KeySettled};
+ghost use Rattle.fixing.specs.Settle.{KeySettled, KeyOver};
 ghost use Rattle.replay.specs.Replay.{RoundsAsk};
 
 use crate::Stage;
 use crate::turn::turn_replayed;
-use fixing::Settled;
+use fixing::TooLarge;
 use marks::mark;
-use progress::goes_on;
 use times::{KeyHash, PackedTime};
 
-// Settles the key's rounds, and marks those in which it crosses. The first e edits of xv, xt and xd are its input, and sv, st and sd its output, loaded.
+// Settles the key's rounds, marks those in which it crosses, and returns how many corrections there are.
+// The first e edits of xv, xt and xd are its input, and sv, st and sd its output, loaded.
 pub fn replay_rounds(
     mode: u64,
     key: KeyHash,
@@ -39,11 +39,10 @@ pub fn replay_rounds(
     ft: &mut [u64],
     fd: &mut [i64],
     fixes: usize,
-) -> Settled
+) -> Result<usize, TooLarge>
     requires { RoundsAsk (length fk.old) moments.now far.now e sv.now st.now sd.now xv.old xt.old xd.old uv.old ut.old ud.old iv.old id.old ov.old od.old cv.old cd.old marks.old fk.old fv.old ft.old fd.old fixes }
-    ensures { KeySettled (length fk.old) mode key.0 (take e (edits xv.old xt.old xd.old)) (edits sv.now st.now sd.now) moments.now fixes result marks.old marks.new fk.old fv.old ft.old fd.old fk.new fv.new ft.new fd.new }
+    ensures { MatchResult result (λ r. KeySettled (length fk.old) mode key.0 (take e (edits xv.old xt.old xd.old)) (edits sv.now st.now sd.now) moments.now fixes r marks.old marks.new fk.old fv.old ft.old fd.old fk.new fv.new ft.new fd.new) (λ _. KeyOver (length fk.old) mode key.0 (take e (edits xv.old xt.old xd.old)) (edits sv.now st.now sd.now) moments.now fixes) }
 {
-    let mut j = 0;
     let mut w = Stage {
         held: 0,
         at: 0,
@@ -51,20 +50,36 @@ pub fn replay_rounds(
         out: 0,
         crossed: false,
         fixes,
-        large: false,
     };
-    while goes_on(j, moments.len(), w.large) {
-        let t = PackedTime(moments[j]);
-        let m = PackedTime(far[j]);
+    for (j, t) in moments.iter().enumerate() {
         w = turn_replayed(
-            mode, key, t, m, e, sv, st, sd, xv, xt, xd, uv, ut, ud, iv, id, ov, od, cv, cd, fk, fv,
-            ft, fd, w,
-        );
+            mode,
+            key,
+            PackedTime(*t),
+            PackedTime(far[j]),
+            e,
+            sv,
+            st,
+            sd,
+            xv,
+            xt,
+            xd,
+            uv,
+            ut,
+            ud,
+            iv,
+            id,
+            ov,
+            od,
+            cv,
+            cd,
+            fk,
+            fv,
+            ft,
+            fd,
+            w,
+        )?;
         mark(w.crossed, j, marks);
-        j += 1;
     }
-    Settled {
-        fixes: w.fixes,
-        large: w.large,
-    }
+    Ok(w.fixes)
 }

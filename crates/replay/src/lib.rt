@@ -8,7 +8,7 @@ mod turn;
 pub use all::replay_rounds;
 
 // How far a key's replay has come: how many edits are held of its input and of its output, where those ahead begin, whether it crossed in the last
-// round, how many corrections there are, and whether they are too large.
+// round, and how many corrections there are.
 #[derive(Clone, Copy)]
 pub struct Stage {
     pub held: usize,
@@ -17,5 +17,4 @@ pub struct Stage {
     pub out: usize,
     pub crossed: bool,
     pub fixes: usize,
-    pub large: bool,
 }

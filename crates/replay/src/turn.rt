@@ -1,10 +1,10 @@
 // One round of a key.
-ghost use Rattle.std.specs.Prelude.{length};
+ghost use Rattle.std.specs.Prelude.{length, MatchResult};
 ghost use Rattle.moments.specs.Present.{edits};
-ghost use Rattle.replay.specs.Replay.{TurnAsks, TurnTaken};
+ghost use Rattle.replay.specs.Replay.{TurnAsks, TurnTaken, TurnOver};
 
 use crate::Stage;
-use fixing::settle_moment;
+use fixing::{TooLarge, settle_moment};
 use gather::{append_dated, gather_from, gather_within};
 use moments::present;
 use times::{KeyHash, PackedTime};
@@ -37,9 +37,9 @@ pub fn turn_replayed(
     ft: &mut [u64],
     fd: &mut [i64],
     w: Stage,
-) -> Stage
+) -> Result<Stage, TooLarge>
     requires { TurnAsks (length fk.old) e sv.now st.now sd.now xv.old xt.old xd.old uv.old ut.old ud.old iv.old id.old ov.old od.old cv.old cd.old fk.old fv.old ft.old fd.old w }
-    ensures { TurnTaken (length fk.old) mode key.0 t.0 m.0 e (edits sv.now st.now sd.now) (edits xv.old xt.old xd.old) (edits uv.old ut.old ud.old) w result (edits xv.new xt.new xd.new) (edits uv.new ut.new ud.new) fk.old fv.old ft.old fd.old fk.new fv.new ft.new fd.new }
+    ensures { MatchResult result (λ r. TurnTaken (length fk.old) mode key.0 t.0 m.0 e (edits sv.now st.now sd.now) (edits xv.old xt.old xd.old) (edits uv.old ut.old ud.old) w r (edits xv.new xt.new xd.new) (edits uv.new ut.new ud.new) fk.old fv.old ft.old fd.old fk.new fv.new ft.new fd.new) (λ _. TurnOver (length fk.old) mode key.0 t.0 m.0 e (edits sv.now st.now sd.now) (edits xv.old xt.old xd.old) (edits uv.old ut.old ud.old) w) }
 {
     let x = gather_within(t, m, w.at, e, w.held, xv, xt, xd, cv, iv, ov, od);
     let u = gather_from(
@@ -50,15 +50,14 @@ pub fn turn_replayed(
     let a = present(&xv[0..n], &xt[0..n], &xd[0..n], t, iv, id, 0);
     let b = present(&uv[0..o], &ut[0..o], &ud[0..o], t, ov, od, 0);
     if a + b == 0 {
-        return Stage {
+        return Ok(Stage {
             held: n,
             at: x.at,
             output: o,
             out: u.at,
             crossed: false,
             fixes: w.fixes,
-            large: false,
-        };
+        });
     }
     let f = settle_moment(
         mode,
@@ -75,27 +74,15 @@ pub fn turn_replayed(
         ft,
         fd,
         w.fixes,
-    );
-    if f.large {
-        return Stage {
-            held: n,
-            at: x.at,
-            output: o,
-            out: u.at,
-            crossed: true,
-            fixes: w.fixes,
-            large: true,
-        };
-    }
+    )?;
     let c = f.count;
-    let k = append_dated(&cv[0..c], &cd[0..c], t, uv, ut, ud, o);
-    Stage {
+    let output = append_dated(&cv[0..c], &cd[0..c], t, uv, ut, ud, o);
+    Ok(Stage {
         held: n,
         at: x.at,
-        output: k,
+        output,
         out: u.at,
         crossed: true,
         fixes: f.fixes,
-        large: false,
-    }
+    })
 }

@@ -1,6 +1,6 @@
 -- A key, loaded and replayed.
 --
--- idle_settled: a key without moments. load_asks: what loading a key asks. load_bounds, rounds_ask: what its rounds ask then. key_settled: what they leave
+-- idle_settled: a key without moments. load_asks: what loading a key asks. load_bounds, rounds_ask: what its rounds ask then. key_returns: what they leave
 use Prim.Native.Nat.{ℕ, ◌+◌, ◌-◌, ◌*◌, ◌^◌, ◌<◌, ◌≤◌}
 use native.Mathlib.Omega.{arith}
 use mathlib.Core.Bool.{false}
@@ -11,6 +11,8 @@ use lib.IntN.{ℤ, nat_abs}
 use lib.ListN.{length, take}
 use lib.Seq.{length-take-le}
 use borrow.Author.Tests.{ltb-true, ltb-false}
+use Rattle.std.specs.Prelude.{Result, Ok, Err, MatchResult}
+use Rattle.fixing.specs.declared.TooLarge.{TooLarge}
 use Rattle.grid.specs.Lists.{flat}
 use Rattle.grid.proofs.Tests.{by-test}
 use Rattle.grid.proofs.Operations.{no_length}
@@ -19,11 +21,10 @@ use Rattle.rules.specs.Histories.{Edit}
 use Rattle.rules.specs.Retire.{Round, settle}
 use Rattle.moments.specs.Present.{edits}
 use Rattle.moments.proofs.Columns.{edits_long, front_edits}
-use Rattle.slots.specs.Slots.{rows_in, crossed_in}
+use Rattle.slots.specs.Slots.{rows_in, crossed_in, rows_too_large}
 use Rattle.marks.specs.Marks.{marked}
-use Rattle.fixing.specs.Settle.{Listed, KeySettled}
+use Rattle.fixing.specs.Settle.{Listed, KeySettled, KeyOver}
 use Rattle.fixing.specs.Windows.{LentRounds}
-use Rattle.fixing.specs.declared.Settled.{Settled}
 use Rattle.fixing.proofs.Left.{left_start, left_end, left_marks}
 use Rattle.gather.specs.Meets.{meet_of}
 use Rattle.gather.specs.Loads.{Timely, LoadsKey, LoadedKey}
@@ -44,10 +45,10 @@ positive n f = by-test (ltb 0 n) (λ e. ltb-true 0 n e) (λ e. absurd (f (let h 
 module _ {most : ℕ} {moments vs ts : List ℕ} {ds : List ℤ} {ovs ots : List ℕ} {ods : List ℤ} {far xv xt : List ℕ} {xd : List ℤ} {sv st : List ℕ} {sd : List ℤ} (a : KeyAsks most moments vs ts ds ovs ots ods far xv xt xd sv st sd)
     {uv ut : List ℕ} {ud : List ℤ} {iv : List ℕ} {id : List ℤ} {ov : List ℕ} {od : List ℤ} {cv : List ℕ} {cd : List ℤ} {marks fk fv ft : List ℕ} {fd : List ℤ} {n : ℕ} (m : LentRounds most uv ut ud iv id ov od cv cd marks fk fv ft fd n) where
   pub idle_settled : (mode k : ℕ) → length moments ≡ 0
-      → KeySettled most mode k (edits vs ts ds) (edits ovs ots ods) moments n (record { fixes = n; large = false }) marks marks fk fv ft fd fk fv ft fd
+      → KeySettled most mode k (edits vs ts ds) (edits ovs ots ods) moments n n marks marks fk fv ft fd fk fv ft fd
   idle_settled mode k e =
       let q : settle mode (edits vs ts ds) (edits ovs ots ods) moments ≡ [] = no_rounds mode (edits vs ts ds) (edits ovs ots ods) moments e in
-      record { listed = left_end {j = 0} {marks₀ = marks} {marks = marks} (left_start m.fits) (λ l. q); marks_are = λ l. left_marks {k = k} {n = n} {r = n} {fk₀ = fk} {fv₀ = fv} {ft₀ = ft} {fd₀ = fd} {fk = fk} {fv = fv} {ft = ft} {fd = fd} (left_start m.fits) (λ l. q) l }
+      record { listed = left_end {j = 0} {marks₀ = marks} {marks = marks} (left_start m.fits) q; marks_are = left_marks {k = k} {n = n} {r = n} {fk₀ = fk} {fv₀ = fv} {ft₀ = ft} {fd₀ = fd} {fk = fk} {fv = fv} {ft = ft} {fd = fd} (left_start m.fits) q }
 
   pub load_asks : (length moments ≡ 0 → ⊥) → LoadsKey moments vs ts ds ovs ots ods far xv xt xd sv st sd iv ov
   load_asks e =
@@ -154,10 +155,21 @@ module _ {most : ℕ} {moments vs ts : List ℕ} {ds : List ℤ} {ovs ots : List
         (λ z. settle mode (d.input_is z) ((loaded_is ∙ d.output_is) z) moments)
         ∙ start_rounds mode (meet_of moments) (edits vs ts ds) (edits ovs ots ods) moments (meet-under moments)
 
-    pub key_settled : {mode k : ℕ} {s : Settled} {marks' fk' fv' ft' : List ℕ} {fd' : List ℤ}
-        → KeySettled most mode k (take r.input (edits xv₁ xt₁ xd₁)) (edits (take (r.output - 0) sv₁) (take (r.output - 0) st₁) (take (r.output - 0) sd₁)) moments n s marks marks' fk fv ft fd fk' fv' ft' fd'
-        → KeySettled most mode k (edits vs ts ds) (edits ovs ots ods) moments n s marks marks' fk fv ft fd fk' fv' ft' fd'
-    key_settled {mode} {k} {s} {marks'} {fk'} {fv'} {ft'} {fd'} q = record {
-      listed = subst (λ (rs : List Round). Listed most (flat (rows_in k) rs) n s.large s.fixes fk fv ft fd fk' fv' ft' fd') (rounds_are mode) q.listed;
-      marks_are = λ l. q.marks_are l ∙ ap (λ rs. marked (crossed_in rs) marks) (rounds_are mode);
+    key_settled : {mode k q : ℕ} {marks' fk' fv' ft' : List ℕ} {fd' : List ℤ}
+        → KeySettled most mode k (take r.input (edits xv₁ xt₁ xd₁)) (edits (take (r.output - 0) sv₁) (take (r.output - 0) st₁) (take (r.output - 0) sd₁)) moments n q marks marks' fk fv ft fd fk' fv' ft' fd'
+        → KeySettled most mode k (edits vs ts ds) (edits ovs ots ods) moments n q marks marks' fk fv ft fd fk' fv' ft' fd'
+    key_settled {mode} {k} {q} {marks'} {fk'} {fv'} {ft'} {fd'} s = record {
+      listed = subst (λ (rs : List Round). Listed most (flat (rows_in k) rs) n false q fk fv ft fd fk' fv' ft' fd') (rounds_are mode) s.listed;
+      marks_are = s.marks_are ∙ ap (λ rs. marked (crossed_in rs) marks) (rounds_are mode);
     }
+
+    key_over : (mode k : ℕ) → KeyOver most mode k (take r.input (edits xv₁ xt₁ xd₁)) (edits (take (r.output - 0) sv₁) (take (r.output - 0) st₁) (take (r.output - 0) sd₁)) moments n
+        → KeyOver most mode k (edits vs ts ds) (edits ovs ots ods) moments n
+    key_over mode k o = sym (ap (λ rs. rows_too_large most n (flat (rows_in k) rs)) (rounds_are mode)) ∙ o
+
+    pub key_returns : (mode k : ℕ) (marks' fk' fv' ft' : List ℕ) (fd' : List ℤ) (q : Result ℕ TooLarge)
+        → MatchResult q (λ q. KeySettled most mode k (take r.input (edits xv₁ xt₁ xd₁)) (edits (take (r.output - 0) sv₁) (take (r.output - 0) st₁) (take (r.output - 0) sd₁)) moments n q marks marks' fk fv ft fd fk' fv' ft' fd')
+        (λ _. KeyOver most mode k (take r.input (edits xv₁ xt₁ xd₁)) (edits (take (r.output - 0) sv₁) (take (r.output - 0) st₁) (take (r.output - 0) sd₁)) moments n)
+        → MatchResult q (λ q. KeySettled most mode k (edits vs ts ds) (edits ovs ots ods) moments n q marks marks' fk fv ft fd fk' fv' ft' fd') (λ _. KeyOver most mode k (edits vs ts ds) (edits ovs ots ods) moments n)
+    key_returns mode k marks' fk' fv' ft' fd' (Ok q) s = key_settled s
+    key_returns mode k marks' fk' fv' ft' fd' (Err e) s = key_over mode k s

@@ -2,21 +2,21 @@
 --
 -- Loads: the lengths of the columns into which a key is loaded. loads_start, loads_again: at first, and of columns of the same lengths
 -- replay_asks: what settling a key's rounds asks. replay_more: once that is done, the keys after it are left
-use Prim.Native.Nat.{ℕ, ◌+◌}
-use mathlib.Core.Bool.{true, ◌&&◌, not}
+-- replay_over: what is left then where its corrections are too large
+use Prim.Native.Nat.{ℕ, ◌+◌, ◌<◌}
 use mathlib.Core.Path.{◌≡◌, refl, sym, ◌∙◌, subst}
 use mathlib.Core.List.{List}
-use lib.Dec.{ltb}
 use lib.IntN.{ℤ, pos}
 use lib.ListN.{length, get_or, replicate, length-replicate}
 use Rattle.grid.specs.Records.{most_records}
 use Rattle.rules.specs.Discover.{most_moments}
-use Rattle.backends.specs.Segments.{part}
+use Rattle.backends.specs.Segments.{part, segments}
+use Rattle.moments.specs.Window.{parts_of}
+use Rattle.slots.specs.Slots.{slots_of}
 use Rattle.moments.specs.Present.{edits}
-use Rattle.fixing.specs.Settle.{KeySettled}
+use Rattle.fixing.specs.Settle.{KeySettled, KeyOver, WindowOver}
 use Rattle.fixing.specs.Windows.{LentRounds}
-use Rattle.fixing.specs.declared.Settled.{Settled}
-use Rattle.fixing.proofs.Slotting.{Slotting, slot_laid, slot_out, slot_moments, slot_lent, slotting_more, lent_again}
+use Rattle.fixing.proofs.Slotting.{Slotting, slot_laid, slot_out, slot_moments, slot_lent, slotting_more, slotting_over, lent_again}
 use Rattle.replaying.specs.Keyed.{KeyAsks}
 
 -- ---- the columns of a key
@@ -54,8 +54,8 @@ loads_again l hfar hyv hyt hyd hzv hzt hzd = record {
 
 -- ---- a key
 module _ {most mode : ℕ} {keys moments mends fs es tv tt : List ℕ} {td : List ℤ} {ofs oes xv xt : List ℕ} {xd : List ℤ} {n : ℕ} {uv₀ ut₀ : List ℕ} {ud₀ : List ℤ} {iv₀ : List ℕ} {id₀ : List ℤ} {ov₀ : List ℕ} {od₀ : List ℤ} {cv₀ : List ℕ} {cd₀ : List ℤ} {marks₀ fk₀ fv₀ ft₀ : List ℕ} {fd₀ : List ℤ}
-    {uv ut : List ℕ} {ud : List ℤ} {iv : List ℕ} {id : List ℤ} {ov : List ℕ} {od : List ℤ} {cv : List ℕ} {cd : List ℤ} {marks fk fv ft : List ℕ} {fd : List ℤ} {b g : ℕ} {r : Settled}
-    (m : Slotting most mode keys moments mends fs es tv tt td ofs oes xv xt xd n uv₀ ut₀ ud₀ iv₀ id₀ ov₀ od₀ cv₀ cd₀ marks₀ fk₀ fv₀ ft₀ fd₀ uv ut ud iv id ov od cv cd marks fk fv ft fd b g r) (t : (not r.large && ltb b (length keys)) ≡ true) where
+    {uv ut : List ℕ} {ud : List ℤ} {iv : List ℕ} {id : List ℤ} {ov : List ℕ} {od : List ℤ} {cv : List ℕ} {cd : List ℤ} {marks fk fv ft : List ℕ} {fd : List ℤ} {b g r : ℕ}
+    (m : Slotting most mode keys moments mends fs es tv tt td ofs oes xv xt xd n uv₀ ut₀ ud₀ iv₀ id₀ ov₀ od₀ cv₀ cd₀ marks₀ fk₀ fv₀ ft₀ fd₀ uv ut ud iv id ov od cv cd marks fk fv ft fd b g r) (t : b < length keys) where
   abbrev f : ℕ
   f = get_or fs b 0
 
@@ -69,11 +69,11 @@ module _ {most mode : ℕ} {keys moments mends fs es tv tt : List ℕ} {td : Lis
   oe = get_or oes b 0
 
   pub replay_asks : {far yv yt : List ℕ} {yd : List ℤ} {zv zt : List ℕ} {zd : List ℤ} → Loads far yv yt yd zv zt zd
-      → KeyAsks (length fk) (part g (get_or mends b 0) moments) (part f e tv) (part f e tt) (part f e td) (part of oe xv) (part of oe xt) (part of oe xd) far yv yt yd zv zt zd × LentRounds (length fk) uv ut ud iv id ov od cv cd marks fk fv ft fd r.fixes
+      → KeyAsks (length fk) (part g (get_or mends b 0) moments) (part f e tv) (part f e tt) (part f e td) (part of oe xv) (part of oe xt) (part of oe xd) far yv yt yd zv zt zd × LentRounds (length fk) uv ut ud iv id ov od cv cd marks fk fv ft fd r
   replay_asks {far} {yv} {yt} {yd} {zv} {zt} {zd} l =
       let i = slot_laid m t in
       let o = slot_out m t in
-      subst (λ (i : ℕ). KeyAsks i (part g (get_or mends b 0) moments) (part f e tv) (part f e tt) (part f e td) (part of oe xv) (part of oe xt) (part of oe xd) far yv yt yd zv zt zd × LentRounds i uv ut ud iv id ov od cv cd marks fk fv ft fd r.fixes) (sym m.lent.lent.long_k) (
+      subst (λ (i : ℕ). KeyAsks i (part g (get_or mends b 0) moments) (part f e tv) (part f e tt) (part f e td) (part of oe xv) (part of oe xt) (part of oe xd) far yv yt yd zv zt zd × LentRounds i uv ut ud iv id ov od cv cd marks fk fv ft fd r) (sym m.lent.lent.long_k) (
         record {
           few = (slot_moments m t).1.1;
           same_t = i.0;
@@ -95,11 +95,16 @@ module _ {most mode : ℕ} {keys moments mends fs es tv tt : List ℕ} {td : Lis
         slot_lent m t,
       )
 
-  pub replay_more : {uv' ut' : List ℕ} {ud' : List ℤ} {iv' : List ℕ} {id' : List ℤ} {ov' : List ℕ} {od' : List ℤ} {cv' : List ℕ} {cd' : List ℤ} {marks' fk' fv' ft' : List ℕ} {fd' : List ℤ} {q : Settled}
-      → KeySettled (length fk) mode (get_or keys b 0) (edits (part f e tv) (part f e tt) (part f e td)) (edits (part of oe xv) (part of oe xt) (part of oe xd)) (part g (get_or mends b 0) moments) r.fixes q marks marks' fk fv ft fd fk' fv' ft' fd'
+  pub replay_more : {uv' ut' : List ℕ} {ud' : List ℤ} {iv' : List ℕ} {id' : List ℤ} {ov' : List ℕ} {od' : List ℤ} {cv' : List ℕ} {cd' : List ℤ} {marks' fk' fv' ft' : List ℕ} {fd' : List ℤ} {q : ℕ}
+      → KeySettled (length fk) mode (get_or keys b 0) (edits (part f e tv) (part f e tt) (part f e td)) (edits (part of oe xv) (part of oe xt) (part of oe xd)) (part g (get_or mends b 0) moments) r q marks marks' fk fv ft fd fk' fv' ft' fd'
       → length uv' ≡ length uv → length ut' ≡ length ut → length ud' ≡ length ud → length iv' ≡ length iv → length id' ≡ length id → length ov' ≡ length ov → length od' ≡ length od → length cv' ≡ length cv → length cd' ≡ length cd → length marks' ≡ length marks → length fk' ≡ length fk → length fv' ≡ length fv → length ft' ≡ length ft → length fd' ≡ length fd
       → Slotting most mode keys moments mends fs es tv tt td ofs oes xv xt xd n uv₀ ut₀ ud₀ iv₀ id₀ ov₀ od₀ cv₀ cd₀ marks₀ fk₀ fv₀ ft₀ fd₀ uv' ut' ud' iv' id' ov' od' cv' cd' marks' fk' fv' ft' fd' (b + 1) (get_or mends b 0) q
   replay_more {marks' = marks'} {fk'} {fv'} {ft'} {fd'} {q} d huv hut hud hiv hid hov hod hcv hcd hmarks hfk hfv hft hfd =
       slotting_more m t (edits (part of oe xv) (part of oe xt) (part of oe xd)) refl
-      (subst (λ (i : ℕ). KeySettled i mode (get_or keys b 0) (edits (part f e tv) (part f e tt) (part f e td)) (edits (part of oe xv) (part of oe xt) (part of oe xd)) (part g (get_or mends b 0) moments) r.fixes q marks marks' fk fv ft fd fk' fv' ft' fd') m.lent.lent.long_k d)
+      (subst (λ (i : ℕ). KeySettled i mode (get_or keys b 0) (edits (part f e tv) (part f e tt) (part f e td)) (edits (part of oe xv) (part of oe xt) (part of oe xd)) (part g (get_or mends b 0) moments) r q marks marks' fk fv ft fd fk' fv' ft' fd') m.lent.lent.long_k d)
       (lent_again m.lent huv hut hud hiv hid hov hod hcv hcd hmarks hfk hfv hft hfd)
+
+  pub replay_over : KeyOver (length fk) mode (get_or keys b 0) (edits (part f e tv) (part f e tt) (part f e td)) (edits (part of oe xv) (part of oe xt) (part of oe xd)) (part g (get_or mends b 0) moments) r
+      → WindowOver most mode (slots_of keys (parts_of fs es (edits tv tt td)) (parts_of ofs oes (edits xv xt xd)) (segments 0 mends moments)) n
+  replay_over o = slotting_over m t (edits (part of oe xv) (part of oe xt) (part of oe xd)) refl
+      (subst (λ (i : ℕ). KeyOver i mode (get_or keys b 0) (edits (part f e tv) (part f e tt) (part f e td)) (edits (part of oe xv) (part of oe xt) (part of oe xd)) (part g (get_or mends b 0) moments) r) m.lent.lent.long_k o)

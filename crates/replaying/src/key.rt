@@ -1,16 +1,16 @@
 // All rounds of a key.
-ghost use Rattle.std.specs.Prelude.{length};
+ghost use Rattle.std.specs.Prelude.{length, MatchResult};
 ghost use Rattle.moments.specs.Present.{edits};
-ghost use Rattle.fixing.specs.Settle.{KeySettled};
+ghost use Rattle.fixing.specs.Settle.{KeySettled, KeyOver};
 ghost use Rattle.fixing.specs.Windows.{LentRounds};
 ghost use Rattle.replaying.specs.Keyed.{KeyAsks};
 
-use fixing::Settled;
+use fixing::TooLarge;
 use gather::load_key;
 use replay::replay_rounds;
 use times::KeyHash;
 
-// Loads the key's input and output, and settles its rounds.
+// Loads the key's input and output, settles its rounds, and returns how many corrections there are.
 pub fn replay_key(
     mode: u64,
     key: KeyHash,
@@ -43,15 +43,12 @@ pub fn replay_key(
     ft: &mut [u64],
     fd: &mut [i64],
     fixes: usize,
-) -> Settled
+) -> Result<usize, TooLarge>
     requires { KeyAsks (length fk.old) moments.now values.now times.now diffs.now outvalues.now outtimes.now outdiffs.now far.old xv.old xt.old xd.old sv.old st.old sd.old × LentRounds (length fk.old) uv.old ut.old ud.old iv.old id.old ov.old od.old cv.old cd.old marks.old fk.old fv.old ft.old fd.old fixes }
-    ensures { KeySettled (length fk.old) mode key.0 (edits values.now times.now diffs.now) (edits outvalues.now outtimes.now outdiffs.now) moments.now fixes result marks.old marks.new fk.old fv.old ft.old fd.old fk.new fv.new ft.new fd.new }
+    ensures { MatchResult result (λ r. KeySettled (length fk.old) mode key.0 (edits values.now times.now diffs.now) (edits outvalues.now outtimes.now outdiffs.now) moments.now fixes r marks.old marks.new fk.old fv.old ft.old fd.old fk.new fv.new ft.new fd.new) (λ _. KeyOver (length fk.old) mode key.0 (edits values.now times.now diffs.now) (edits outvalues.now outtimes.now outdiffs.now) moments.now fixes) }
 {
-    if moments.len() == 0 {
-        return Settled {
-            fixes,
-            large: false,
-        };
+    if moments.is_empty() {
+        return Ok(fixes);
     }
     let l = load_key(
         moments, values, times, diffs, outvalues, outtimes, outdiffs, far, xv, xt, xd, sv, st, sd,

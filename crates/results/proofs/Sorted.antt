@@ -5,10 +5,10 @@
 use Prim.Native.Nat.{ℕ, ◌+◌, ◌-◌, ◌≤◌}
 use native.Mathlib.Omega.{arith}
 use native.Mathlib.Nat.{sub-zero}
-use mathlib.Core.List.{List, [], ◌∷◌, map}
+use mathlib.Core.List.{List, [], ◌∷◌, map, ◌++◌}
 use mathlib.Core.Path.{◌≡◌, refl, sym, ◌∙◌, ap, subst}
 use lib.IntN.{ℤ}
-use lib.ListN.{length, take, length-map}
+use lib.ListN.{length, take, length-map, drop}
 use borrow.Rule.Slice.PartMut.{put_mid}
 use Rattle.grid.specs.Records.{most_records}
 use Rattle.rules.specs.Call.{Fix}
@@ -46,15 +46,13 @@ module _ (tiles keys values times : List ℕ) (diffs : List ℤ) where
         (laid_at (column_at 1) (column_sorted (λ f. f.row.key) i)
         (laid_at (column_at 0) (column_sorted (λ f. f.tile) i) res)))
 
-  pub fixes-told : {places work res res' : List ℕ} {rd part : List ℤ} → Long (length tiles) keys values times diffs → WorkAfter (sorted_places tiles keys values times) places work
+  pub fixes-told : {places work res res' : List ℕ} {rd rd' : List ℤ} → Long (length tiles) keys values times diffs → WorkAfter (sorted_places tiles keys values times) places work
       → res' ≡ laid_at (column_at 3) (map (entry times) places) (laid_at (column_at 2) (map (entry values) places) (laid_at (column_at 1) (map (entry keys) places) (laid_at (column_at 0) (map (entry tiles) places) res)))
-      → part ≡ map (diff_entry diffs) places → FixesTold tiles keys values times diffs res res' rd (put_mid 0 (length places - 0) rd part)
-  fixes-told {places} {work} {res} {res'} {rd} h w e d =
-      let l : 0 + length (map (diff_entry diffs) places) ≡ length places = omega (arith, length-map places (diff_entry diffs)) in
-      record {
-        columns_are = e ∙ columns-laid h places w.places_are res;
-        diffs_are = part-laid rd 0 (map (diff_entry diffs) places) (length places) l d ∙ ap (λ ds. laid_at 0 ds rd) (column_sorted h places w.places_are (λ f. f.row.diff));
-      }
+      → rd' ≡ laid_at 0 (map (diff_entry diffs) places) rd → FixesTold tiles keys values times diffs res res' rd rd'
+  fixes-told {places} {work} {res} {res'} {rd} h w e d = record {
+    columns_are = e ∙ columns-laid h places w.places_are res;
+    diffs_are = d ∙ ap (λ ds. laid_at 0 ds rd) (column_sorted h places w.places_are (λ f. f.row.diff));
+  }
 
 -- as many places as corrections
 module _ {count : ℕ} {places work res : List ℕ} {rd : List ℤ} (few : count ≤ most_records) (m : Room count places work) (w : Wide res rd) {k : ℕ} (same : k ≡ length places) where
@@ -73,10 +71,10 @@ module _ {tiles keys values times : List ℕ} {diffs : List ℤ} {n : ℕ} {plac
         omega (arith, g.few),
         (
           record {
-            long_keys = first-length keys g.in_keys_lem ∙ sym t;
-            long_values = first-length values g.in_values_lem ∙ sym t;
-            long_times = first-length times g.in_times_lem ∙ sym t;
-            long_diffs = first-length diffs g.in_diffs_lem ∙ sym t;
+            long_keys = first-length keys g.in_keys ∙ sym t;
+            long_values = first-length values g.in_values ∙ sym t;
+            long_times = first-length times g.in_times ∙ sym t;
+            long_diffs = first-length diffs g.in_diffs ∙ sym t;
           },
           (record { room_places = first-length places g.room_places ∙ sym t; room_work = first-length work g.room_work ∙ sym t }, g.wide),
         ),

@@ -90,10 +90,10 @@ module _ {keys values times : List ℕ} {diffs : List ℤ} {n : ℕ} {pendkeys p
   found_length : length found ≡ n
   unfolding placed
   found_length =
-      let k = length-take-le n keys g.in_keys_lem in
-      let v = length-take-le n values g.in_values_lem in
-      let t = length-take-le n times g.in_times_lem in
-      let d = length-take-le n diffs g.in_diffs_lem in
+      let k = length-take-le n keys g.in_keys in
+      let v = length-take-le n values g.in_values in
+      let t = length-take-le n times g.in_times in
+      let d = length-take-le n diffs g.in_diffs in
       length_sort _ (placed held (tiles lower upper held) corrections) ∙ length-map corrections _ ∙ rows-length (take n keys) (take n values) (take n times) (take n diffs) (k ∙ sym t) (v ∙ sym t) (d ∙ sym t) ∙ t
 
   alike : length (take m pendtimes) ≡ length (take m pendkeys)
@@ -107,7 +107,7 @@ module _ {keys values times : List ℕ} {diffs : List ℤ} {n : ℕ} {pendkeys p
     few_lower = g.few_lower;
     few_upper = g.few_upper;
     few_held = g.few_held;
-    in_times_lem = g.in_times_lem;
+    in_times = g.in_times;
     room_out = g.room_out;
     wide_numbers = omega (arith, g.wide_numbers);
   }
@@ -116,25 +116,25 @@ module _ {keys values times : List ℕ} {diffs : List ℤ} {n : ℕ} {pendkeys p
   fixes_given o s d p q r = record {
     few = g.few_fixes;
     in_tiles = omega (arith, g.room_out);
-    in_keys_lem = g.in_keys_lem;
-    in_values_lem = g.in_values_lem;
-    in_times_lem = g.in_times_lem;
-    in_diffs_lem = g.in_diffs_lem;
+    in_keys = g.in_keys;
+    in_values = g.in_values;
+    in_times = g.in_times;
+    in_diffs = g.in_diffs;
     room_places = g.room_places;
     room_work = g.room_work;
     wide = record { wide_numbers = omega (arith, g.wide_numbers); wide_diffs = omega (arith, g.wide_diffs) };
   }
 
   pub lists_given : {size : ℕ} → size ≡ length res
-      → ((length (take (m - 0) pendkeys) ≤ most_records) × (length (take (m - 0) pendtimes) ≤ most_records)) × ((length frontier ≤ most_times) × (numbers_size ≤ size))
+      → ((length (take m pendkeys) ≤ most_records) × (length (take m pendtimes) ≤ most_records)) × ((length frontier ≤ most_times) × (numbers_size ≤ size))
   lists_given e =
-      ((omega (arith, first-length pendkeys g.in_pendkeys, g.few_pending), omega (arith, first-length pendtimes g.in_pendtimes, g.few_pending)), (g.few_frontier, omega (arith, g.wide_numbers)))
+      ((omega (arith, length-take-le m pendkeys g.in_pendkeys, g.few_pending), omega (arith, length-take-le m pendtimes g.in_pendtimes, g.few_pending)), (g.few_frontier, omega (arith, g.wide_numbers)))
 
   numbers_few : length (flat tile_numbers (tiles lower upper held)) ≤ most_times * tile_size
   numbers_few = omega (arith, numbers_short upper lower held (omega (arith, g.few_lower)) (omega (arith, g.few_upper, g.few_held)), g.few_held)
 
   module _ {beside res₀ res₁ res₂ res' : List ℕ} {rd₀ rd' : List ℤ} {r : ℕ} (z : Zeros res res₀ rd rd₀) (t : TilesTold lower upper held (take n times) beside res₀ res₁ r)
-      (f : FixesTold beside (take n keys) (take n values) (take n times) (take n diffs) res₁ res₂ rd₀ rd') (l : res' ≡ lists_laid (take (m - 0) pendkeys) (take (m - 0) pendtimes) frontier res₂) where
+      (f : FixesTold beside (take n keys) (take n values) (take n times) (take n diffs) res₁ res₂ rd₀ rd') (l : res' ≡ lists_laid (take m pendkeys) (take m pendtimes) frontier res₂) where
     fixes_are : fixes beside (take n keys) (take n values) (take n times) (take n diffs) ≡ placed held (tiles lower upper held) corrections
     unfolding placed
     fixes_are =
@@ -144,7 +144,6 @@ module _ {keys values times : List ℕ} {diffs : List ℤ} {n : ℕ} {pendkeys p
     laid : res' ≡ lists_laid (map (λ p. p.0) pended) (map (λ p. p.1) pended) frontier (fixes_laid found (laid_at tiles_at (flat tile_numbers (tiles lower upper held)) (replicate (length res) 0)))
     laid =
         l
-        ∙ ap (λ k. lists_laid (take k pendkeys) (take k pendtimes) frontier res₂) (sub-zero m)
         ∙ (λ i. lists_laid (sym (pairs_keys (take m pendkeys) (take m pendtimes) alike) i) (sym (pairs-times (take m pendkeys) (take m pendtimes) alike) i) frontier
         ((f.columns_are ∙ (λ j. fixes_laid (sorted_fixes (fixes_are j)) ((t.tiles_are ∙ ap (laid_at tiles_at (flat tile_numbers (tiles lower upper held))) z.zero-numbers) j))) i))
 

@@ -19,10 +19,10 @@ pub record FixesTold (tiles keys values times : List ℕ) (diffs : List ℤ) (re
 pub record FirstFixes (tiles keys values times : List ℕ) (diffs : List ℤ) (n : ℕ) (places work res : List ℕ) (rd : List ℤ) : Type 0 where
   pub few : n ≤ most_records
   pub in_tiles : n ≤ length tiles
-  pub in_keys_lem : n ≤ length keys
-  pub in_values_lem : n ≤ length values
-  pub in_times_lem : n ≤ length times
-  pub in_diffs_lem : n ≤ length diffs
+  pub in_keys : n ≤ length keys
+  pub in_values : n ≤ length values
+  pub in_times : n ≤ length times
+  pub in_diffs : n ≤ length diffs
   pub room_places : n ≤ length places
   pub room_work : n ≤ length work
   pub wide : Wide res rd

@@ -43,10 +43,10 @@ pub record Published (keys values times : List ℕ) (diffs : List ℤ) (pendkeys
 -- what publish takes: the first n corrections and the first m pending entries
 pub record Ready (keys values times : List ℕ) (diffs : List ℤ) (n : ℕ) (pendkeys pendtimes : List ℕ) (m : ℕ) (frontier lower upper held out places work res : List ℕ) (rd : List ℤ) : Type 0 where
   pub few_fixes : n ≤ most_records
-  pub in_keys_lem : n ≤ length keys
-  pub in_values_lem : n ≤ length values
-  pub in_times_lem : n ≤ length times
-  pub in_diffs_lem : n ≤ length diffs
+  pub in_keys : n ≤ length keys
+  pub in_values : n ≤ length values
+  pub in_times : n ≤ length times
+  pub in_diffs : n ≤ length diffs
   pub few_pending : m ≤ most_records
   pub in_pendkeys : m ≤ length pendkeys
   pub in_pendtimes : m ≤ length pendtimes

@@ -1,9 +1,11 @@
 // The answer of a call, written to result memory.
 ghost use Rattle.std.specs.Prelude.{take};
+ghost use Rattle.requests.specs.Memory.{SameResults};
 ghost use Rattle.results.specs.Told.{Ready, Published};
 
 use crate::fixes::publish_fixes;
 use placing::{clear_results, publish_lists, publish_tiles};
+use requests::{Frontiers, Pending, ResultMemory, Run};
 
 // How many entries of result memory are used.
 #[derive(Clone, Copy)]
@@ -14,36 +16,40 @@ pub struct Counts {
     pub frontier: usize,
 }
 
+// Columns to work in, as long as there are corrections. They mean nothing afterwards.
+#[derive(Drop)]
+pub struct Scratch<'a> {
+    pub tiles: &'a mut [u64],
+    pub places: &'a mut [u64],
+    pub work: &'a mut [u64],
+}
+
 // Writes the answer of a call that worked: the first n corrections, in any order, the first m pending entries, ascending, and the next frontier.
-// The scratch (out, places, work) means nothing afterwards.
 pub fn publish(
-    keys: &[u64],
-    values: &[u64],
-    times: &[u64],
-    diffs: &[i64],
+    fixes: &Run<'_>,
     n: usize,
-    pendkeys: &[u64],
-    pendtimes: &[u64],
+    pending: &Pending<'_>,
     m: usize,
     frontier: &[u64],
-    lower: &[u64],
-    upper: &[u64],
-    held: &[u64],
-    out: &mut [u64],
-    places: &mut [u64],
-    work: &mut [u64],
-    res: &mut [u64],
-    rd: &mut [i64],
+    f: &Frontiers<'_>,
+    scratch: Scratch<'_>,
+    results: &mut ResultMemory<'_>,
 ) -> Counts
-    requires { Ready keys.now values.now times.now diffs.now n pendkeys.now pendtimes.now m frontier.now lower.now upper.now held.now out.old places.old work.old res.old rd.old }
-    ensures { Published (take n keys.now) (take n values.now) (take n times.now) (take n diffs.now) (take m pendkeys.now) (take m pendtimes.now) frontier.now lower.now upper.now held.now res.old res.new rd.old rd.new result }
+    requires { Ready fixes.now.keys.now fixes.now.values.now fixes.now.times.now fixes.now.diffs.now n pending.now.keys.now pending.now.times.now m frontier.now f.now.lower.now f.now.upper.now f.now.held.now scratch.tiles.now scratch.places.now scratch.work.now results.old.numbers.now results.old.diffs.now }
+    ensures told { Published (take n fixes.now.keys.now) (take n fixes.now.values.now) (take n fixes.now.times.now) (take n fixes.now.diffs.now) (take m pending.now.keys.now) (take m pending.now.times.now) frontier.now f.now.lower.now f.now.upper.now f.now.held.now results.old.numbers.now results.new.numbers.now results.old.diffs.now results.new.diffs.now result }
+    ensures same { SameResults results.old results.new }
 {
-    clear_results(res, rd);
-    let count = publish_tiles(lower, upper, held, times, n, out, res);
-    publish_fixes(out, keys, values, times, diffs, n, places, work, res, rd);
-    publish_lists(&pendkeys[0..m], &pendtimes[0..m], frontier, res);
+    let Scratch {
+        tiles: beside,
+        places,
+        work,
+    } = scratch;
+    clear_results(results);
+    let tiles = publish_tiles(f, fixes.times, n, beside, results.numbers);
+    publish_fixes(beside, fixes, n, places, work, results);
+    publish_lists(&pending.first(m), frontier, results.numbers);
     Counts {
-        tiles: count,
+        tiles,
         fixes: n,
         pending: m,
         frontier: frontier.len(),

@@ -1,9 +1,9 @@
 -- The merge of a key's correction into its output, and what it keeps.
 --
 -- Mixing: the edits before i of the segment and before j of the corrections are merged, and stand before k
--- mixing_start, mix_left, mix_right, mixing_end: the merge keeps that. here-*, in-*: the places that a turn reads and writes
+-- mix_left, mix_right, mixing_end: the merge keeps that. here-*, in-*: the places that a turn reads and writes
 -- merged_sorted: what is merged ascends by value. merged-mass: its diffs are together as large as those of the segment and of the corrections
-use Prim.Native.Nat.{ℕ, zero, suc, ◌+◌, ◌-◌, ◌<◌, ◌≤◌}
+use Prim.Native.Nat.{ℕ, zero, suc, ◌+◌, ◌<◌, ◌≤◌}
 use native.Mathlib.Omega.{arith}
 use mathlib.Core.Bool.{Bool, true, false}
 use mathlib.Core.Path.{◌≡◌, refl, sym, ◌∙◌, ap, subst}
@@ -22,7 +22,7 @@ use Rattle.rules.specs.Histories.{Edit, time_of, value_of}
 use Rattle.rules.specs.Backends.{Sums}
 use Rattle.rules.specs.Retire.{dated}
 use Rattle.backends.specs.Columns.{entries}
-use Rattle.backends.proofs.Columns.{less, Writing, writing_start, writing_more, writing_end}
+use Rattle.backends.proofs.Columns.{less, Writing, writing_more, writing_end}
 use Rattle.moments.specs.Present.{edits}
 use Rattle.rounds.specs.Merges.{by_value, merged, Merges, Rows}
 use Rattle.moments.proofs.Columns.{e₀, edits-at, edits_values}
@@ -80,22 +80,10 @@ pub record Mixing (uv ut : List ℕ) (ud : List ℤ) (cv : List ℕ) (cd : List 
   pub asks : Merges uv ut ud cv cd yv₀ yt₀ yd₀ at
   pub ia : i ≤ length uv
   pub jb : j ≤ length cv
-  pub room : k + (length uv - i) + (length cv - j) ≤ length yv₀
+  pub even : k ≡ at + i + j
   pub values : Writing yv₀ at (map value_of (left uv ut ud cv cd t 0 0)) yv k (map value_of (left uv ut ud cv cd t i j))
   pub times : Writing yt₀ at (map time_of (left uv ut ud cv cd t 0 0)) yt k (map time_of (left uv ut ud cv cd t i j))
   pub diffs : Writing yd₀ at (map (λ (e : Edit). e.1) (left uv ut ud cv cd t 0 0)) yd k (map (λ (e : Edit). e.1) (left uv ut ud cv cd t i j))
-
-pub mixing_start : {uv ut : List ℕ} {ud : List ℤ} {cv : List ℕ} {cd : List ℤ} {yv yt : List ℕ} {yd : List ℤ} {at : ℕ} (t : ℕ) → Merges uv ut ud cv cd yv yt yd at
-    → Mixing uv ut ud cv cd t at yv yt yd yv yt yd 0 0 at
-mixing_start {uv} {ut} {ud} {cv} {cd} {yv} {yt} {yd} {at} t a = record {
-  asks = a;
-  ia = omega arith;
-  jb = omega arith;
-  room = omega arith;
-  values = writing_start yv at (map value_of (left uv ut ud cv cd t 0 0));
-  times = writing_start yt at (map time_of (left uv ut ud cv cd t 0 0));
-  diffs = writing_start yd at (map (λ (e : Edit). e.1) (left uv ut ud cv cd t 0 0));
-}
 
 module _ {uv ut : List ℕ} {ud : List ℤ} {cv : List ℕ} {cd : List ℤ} {t at : ℕ} {yv₀ yt₀ : List ℕ} {yd₀ : List ℤ} {yv yt : List ℕ} {yd : List ℤ} {i j k : ℕ}
     (m : Mixing uv ut ud cv cd t at yv₀ yt₀ yd₀ yv yt yd i j k) where
@@ -126,30 +114,15 @@ module _ {uv ut : List ℕ} {ud : List ℤ} {cv : List ℕ} {cd : List ℤ} {t a
       let q = map-drop value_of j cs ∙ ap (drop j) values_c in
       first_values (drop i us) (drop j cs) ∙ (λ z. left_first leb (p z) (q z)) ∙ e
 
-  module _ (h : i + j < length uv + length cv) where
+  module _ (h : k < at + length uv + length cv) where
     pub here_v : k < length yv
-    here_v =
-        let a : i ≤ length uv = m.ia in
-        let b : j ≤ length cv = m.jb in
-        let r : k + (length uv - i) + (length cv - j) ≤ length yv₀ = m.room in
-        let s : length yv ≡ length yv₀ = m.values.same in
-        omega arith
+    here_v = omega (arith, m.asks.room, m.values.same)
 
     pub here_t : k < length yt
-    here_t =
-        let a : k < length yv = here_v in
-        let s : length yv ≡ length yv₀ = m.values.same in
-        let u : length yt ≡ length yt₀ = m.times.same in
-        let w : length yt₀ ≡ length yv₀ = m.asks.same_yt in
-        omega arith
+    here_t = omega (arith, here_v, m.values.same, m.times.same, m.asks.same_yt)
 
     pub here_d : k < length yd
-    here_d =
-        let a : k < length yv = here_v in
-        let s : length yv ≡ length yv₀ = m.values.same in
-        let u : length yd ≡ length yd₀ = m.diffs.same in
-        let w : length yd₀ ≡ length yv₀ = m.asks.same_yd in
-        omega arith
+    here_d = omega (arith, here_v, m.values.same, m.diffs.same, m.asks.same_yd)
 
   pub in_left : First true → (i < length uv) × ((i < length ut) × (i < length ud))
   in_left e =
@@ -158,44 +131,43 @@ module _ {uv ut : List ℕ} {ud : List ℤ} {cv : List ℕ} {cd : List ℤ} {t a
       let q : length ud ≡ length uv = m.asks.same_ud in
       (h, (omega arith, omega arith))
 
-  pub in_right : i + j < length uv + length cv → First false → (j < length cv) × (j < length cd)
+  pub in_right : k < at + length uv + length cv → First false → (j < length cv) × (j < length cd)
   in_right h e =
-      let g : j < length cv = right_in uv cv i j h m.jb e in
+      let g : j < length cv = right_in uv cv i j (omega (arith, m.even)) m.jb e in
       let p : length cd ≡ length cv = m.asks.same_cd in
       (g, omega arith)
 
-  write : (i' j' : ℕ) (x : Edit) → i + j < length uv + length cv → i' ≤ length uv → j' ≤ length cv → i + j < i' + j' → i ≤ i' → j ≤ j'
+  write : (i' j' : ℕ) (x : Edit) → k < at + length uv + length cv → i' ≤ length uv → j' ≤ length cv → i' + j' ≡ i + j + 1
       → left uv ut ud cv cd t i j ≡ x ∷ left uv ut ud cv cd t i' j'
       → Mixing uv ut ud cv cd t at yv₀ yt₀ yd₀ (set yv k (value_of x)) (set yt k (time_of x)) (set yd k x.1) i' j' (k + 1)
-  write i' j' x h a b g p q e =
-      let r : k + (length uv - i) + (length cv - j) ≤ length yv₀ = m.room in
+  write i' j' x h a b g e =
       record {
         asks = m.asks;
         ia = a;
         jb = b;
-        room = omega arith;
+        even = omega (arith, m.even);
         values = writing_more m.values (value_of x) (here_v h) (ap (map value_of) e);
         times = writing_more m.times (time_of x) (here_t h) (ap (map time_of) e);
         diffs = writing_more m.diffs x.1 (here_d h) (ap (map (λ (e : Edit). e.1)) e);
       }
 
-  pub mix_left : (d : ℤ) → i + j < length uv + length cv → First true → d ≡ get_or ud i (pos 0)
+  pub mix_left : (d : ℤ) → k < at + length uv + length cv → First true → d ≡ get_or ud i (pos 0)
       → Mixing uv ut ud cv cd t at yv₀ yt₀ yd₀ (set yv k (get_or uv i 0)) (set yt k (get_or ut i 0)) (set yd k d) (i + 1) j (k + 1)
   unfolding value_of time_of
   mix_left d h e q =
       let g : i < length uv = (in_left e).0 in
       let l : length us ≡ length uv = length_u in
-      write (i + 1) j ((get_or ut i 0, get_or uv i 0), d) h (omega arith) m.jb (omega arith) (omega arith) (omega arith)
+      write (i + 1) j ((get_or ut i 0, get_or uv i 0), d) h (omega arith) m.jb (omega arith)
       (merge_left by_value us cs i j e₀ (omega arith) (told e)
       ∙ ap (λ x. x ∷ left uv ut ud cv cd t (i + 1) j) (edits-at uv ut ud i m.asks.same_ut m.asks.same_ud g ∙ ap (λ z. ((get_or ut i 0, get_or uv i 0), z)) (sym q)))
 
-  pub mix_right : (d : ℤ) → i + j < length uv + length cv → First false → d ≡ get_or cd j (pos 0)
+  pub mix_right : (d : ℤ) → k < at + length uv + length cv → First false → d ≡ get_or cd j (pos 0)
       → Mixing uv ut ud cv cd t at yv₀ yt₀ yd₀ (set yv k (get_or cv j 0)) (set yt k t) (set yd k d) i (j + 1) (k + 1)
   unfolding value_of time_of
   mix_right d h e q =
       let g : j < length cv = (in_right h e).0 in
       let l : length cs ≡ length cv = length_c in
-      write i (j + 1) ((t, get_or cv j 0), d) h m.ia (omega arith) (omega arith) (omega arith) (omega arith)
+      write i (j + 1) ((t, get_or cv j 0), d) h m.ia (omega arith) (omega arith)
       (merge_right by_value us cs i j e₀ (omega arith) (told e)
       ∙ ap (λ x. x ∷ left uv ut ud cv cd t i (j + 1)) (dated-at t cv cd j m.asks.same_cd g ∙ ap (λ z. ((t, get_or cv j 0), z)) (sym q)))
 
@@ -206,19 +178,20 @@ module _ {uv ut : List ℕ} {ud : List ℤ} {cv : List ℕ} {cd : List ℤ} {t a
       (sorted_of us (subst (Sorted leb) (sym values_u) m.asks.ascends_u))
       (sorted_of cs (subst (Sorted leb) (sym values_c) m.asks.ascends_c))
 
-  pub mixing_end : length uv + length cv ≤ i + j → Rows yv₀ yt₀ yd₀ at (merged us t (entries cv cd)) yv yt yd k
-  mixing_end h =
+  pub mixing_end : {r : ℕ} → at + length uv + length cv ≤ k → r ≡ k → Rows yv₀ yt₀ yd₀ at (merged us t (entries cv cd)) yv yt yd r
+  mixing_end h z =
       let a : i ≤ length uv = m.ia in
       let b : j ≤ length cv = m.jb in
       let p : length us ≡ length uv = length_u in
       let q : length cs ≡ length cv = length_c in
-      let e : left uv ut ud cv cd t i j ≡ [] = merge_none by_value us cs i j e₀ (omega arith) (omega arith) in
-      subst (λ (l : List Edit). Rows yv₀ yt₀ yd₀ at l yv yt yd k) whole_is
+      let e : left uv ut ud cv cd t i j ≡ [] = merge_none by_value us cs i j e₀ (omega (arith, m.even)) (omega (arith, m.even)) in
+      rw z
+      (subst (λ (l : List Edit). Rows yv₀ yt₀ yd₀ at l yv yt yd k) whole_is
       (record {
         values = writing_end m.values (ap (map value_of) e);
         times = writing_end m.times (ap (map time_of) e);
         diffs = writing_end m.diffs (ap (map (λ (e : Edit). e.1)) e);
-      })
+      }))
 
 -- ---- what a merge keeps
 pub merged_sorted : (es : List Edit) (t : ℕ) (c : Sums) → Sorted leb (map value_of (merged es t c))

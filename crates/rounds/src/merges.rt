@@ -22,27 +22,21 @@ pub fn merge_corrections(
     requires { Merges uv.now ut.now ud.now cv.now cd.now yv.old yt.old yd.old at }
     ensures { Rows yv.old yt.old yd.old at (merged (edits uv.now ut.now ud.now) t.0 (entries cv.now cd.now)) yv.new yt.new yd.new result }
 {
-    let n = uv.len();
-    let m = cv.len();
+    let end = at + uv.len() + cv.len();
     let mut i = 0;
     let mut j = 0;
-    let mut k = at;
-    while i + j < n + m {
+    for k in at..end {
         if left_first(uv, i, cv, j) {
             yv[k] = uv[i];
             yt[k] = ut[i];
-            let d = ud[i];
-            yd[k] = d;
+            yd[k] = ud[i];
             i += 1;
-            k += 1;
         } else {
             yv[k] = cv[j];
             yt[k] = t.0;
-            let d = cd[j];
-            yd[k] = d;
+            yd[k] = cd[j];
             j += 1;
-            k += 1;
         }
     }
-    k
+    end
 }

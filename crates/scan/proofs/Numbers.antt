@@ -1,152 +1,152 @@
--- What the steps of the scanner come to in the readers of `form`: digits, numbers, words.
+-- What the steps of the scanner come to in the readers of `form`: digits, numbers, words, diffs.
 --
 -- Counting: the digits so far make n, and n with the digits still to come is what `up_to` reads from the start
--- up_to_more, -stop, -none, -over: the cases of one more byte. word_more, -other, -short, -end: the same of a word
-use Prim.Native.Nat.{ℕ, suc, ◌+◌, ◌-◌, ◌*◌, ◌≤◌, ◌<◌}
-use native.Mathlib.Nat.{add-zero}
-use native.Mathlib.Numerals.{add-one}
-use native.Mathlib.Omega.{arith}
-use mathlib.Core.Path.{◌≡◌, refl, sym, ◌∙◌, ap}
-use mathlib.Core.Bool.{Bool, true, false, not}
-use mathlib.Core.List.{List, [], ◌∷◌}
-use mathlib.Core.Option.{Option, none, some}
-use lib.Dec.{leb, ltb, eqb}
-use lib.ListN.{length, drop, get_or, drop_of_length-le, get_or-eq_default}
-use lib.Seq.{drop-cons, get_or-drop}
-use borrow.Author.Tests.{ltb-true, ltb-false, le-leb, lt-leb, eq-eqb, ne_eqb}
+-- plain_zero, plain_other: whether digits are a number without leading zeros. number_read, -bad, -not: a number at a place
+-- word_is, word_not: a word at a place. minus_none, -zero, -all, plus_none, -all: the cases of a diff
+use Rattle.std.proofs.Common.{◌≡◌, ◌≢◌, refl, sym, ◌∙◌, ap, arith, ℕ, zero, suc, ◌+◌, ◌-◌, ◌*◌, ◌/◌, ◌^◌, ◌≤◌, ◌<◌, add-one, Bool, true, false, not, cond, List, [], ◌∷◌, leb, eqb, length, drop, take, get_or, nat_eq, ℤ, pos, negsuc, drop-cons}
+use Rattle.std.proofs.Math.Option.{none, some}
+use Rattle.std.proofs.lemmas.Bool.{eqb-true, eqb-false, eq-eqb}
+use Rattle.std.specs.List.{starts_with}
+use lib.ListN.{drop_of_length-le}
+use Rattle.std.proofs.lemmas.List.{drop-drop}
+use lib.Signed.{mag}
+use mir.Syntax.{w64}
+use mir.Val.{to_z, of_z}
+use Rattle.grid.proofs.Signed.{back}
+use borrow.Author.Tests.{leb-true, le-leb, lt-leb, ne_eqb}
 use Rattle.grid.proofs.Tests.{by-test}
 use Rattle.grid.specs.Lists.{front}
 use Rattle.form.proofs.Digits.{value_grows}
-use Rattle.form.specs.Read.{word, digit, value, plain, up_to, number}
-
-pub by_end {ℓ} : {C : Type ℓ} (a n : ℕ) → (a < n → C) → (n ≤ a → C) → C
-by_end a n f g = by-test (ltb a n) (λ e. f (ltb-true a n e)) (λ e. g (ltb-false a n e))
-
--- ---- digits
-pub digit_yes : (b : ℕ) → 48 ≤ b → b ≤ 57 → digit b ≡ true
-digit_yes b h k = rw (le-leb 48 b h) (le-leb b 57 k)
-
-pub digit_low : (b : ℕ) → b < 48 → digit b ≡ false
-digit_low b h = rw (lt-leb 48 b h)
-
-pub digit_from : (b : ℕ) → 48 ≤ b → leb b 57 ≡ digit b
-digit_from b h = rw (le-leb 48 b h)
-
-pub digit_high : (b : ℕ) → 57 < b → digit b ≡ false
-digit_high b h = by-test (leb 48 b) (λ e. rw e (lt-leb b 57 h)) (λ e. rw e)
+use Rattle.form.specs.Read.{then, word, digit, value, plain, up_to, number, max63, negated, signed}
 
 -- ---- a number, digit by digit
-pub up_to_more : (most n b : ℕ) (s : List ℕ) → digit b ≡ true → up_to most n (b ∷ s) ≡ up_to most (n * 10 + (b - 48)) s
+up_to_more : (most n b : ℕ) (s : List ℕ) → digit b ≡ true → up_to most n (b ∷ s) ≡ up_to most (n * 10 + (b - 48)) s
 unfolding up_to value
 up_to_more most n b s e = rw e
 
-pub up_to_stop : (most n b : ℕ) (s : List ℕ) → n ≤ most → digit b ≡ false → up_to most n (b ∷ s) ≡ some (n, b ∷ s)
+up_to_stop : (most n b : ℕ) (s : List ℕ) → n ≤ most → digit b ≡ false → up_to most n (b ∷ s) ≡ some (n, b ∷ s)
 unfolding up_to value
 up_to_stop most n b s h e = rw (e, le-leb n most h)
 
-pub up_to_none : (most n : ℕ) → n ≤ most → up_to most n [] ≡ some (n, [])
+up_to_none : (most n : ℕ) → n ≤ most → up_to most n [] ≡ some (n, [])
 unfolding up_to value
 up_to_none most n h = rw (le-leb n most h)
 
-pub up_to-over : (most n : ℕ) (s : List ℕ) → most < n → up_to most n s ≡ none
+up_to_over : (most n : ℕ) (s : List ℕ) → most < n → up_to most n s ≡ none
 unfolding up_to
-up_to-over most n s h = let k : n ≤ value n (front digit s) = value_grows n (front digit s) in rw (lt-leb (value n (front digit s)) most (omega arith))
+up_to_over most n s h = let k : n ≤ value n (front digit s) = value_grows n (front digit s) in rw (lt-leb (value n (front digit s)) most (omega arith))
+
+digit_below : (b : ℕ) → digit b ≡ true → b ≤ 57
+digit_below b e = by-test (leb b 57) (λ t. leb-true b 57 t) (λ t. by-test (leb 48 b) (λ u. let d : false ≡ true = rw (t, u) at e in absurd (cc)) (λ u. let d : false ≡ true = rw u at e in absurd (cc)))
 
 -- ---- the loop over the digits
-pub record Counting (s : List ℕ) (from most n at : ℕ) : Type 0 where
+pub record Counting (s : List ℕ) (most n at : ℕ) : Type 0 where
   pub small : n ≤ most
-  pub same : up_to most n (drop at s) ≡ up_to most 0 (drop from s)
+  pub same : up_to most n (drop at s) ≡ up_to most 0 s
 
-pub drop_is : (s : List ℕ) (at : ℕ) {b : ℕ} → at < length s → b ≡ get_or s at 0 → drop at s ≡ b ∷ drop (suc at) s
-drop_is s at h e = drop-cons s at 0 h ∙ ap (λ x. x ∷ drop (suc at) s) (sym e)
+module _ {s : List ℕ} {most n at : ℕ} (c : Counting s most n at) where
+  pub counting_end : length s ≤ at → at ≤ length s → some (n, drop (length s) s) ≡ up_to most 0 s
+  counting_end h k = let q : length s ≤ length s = omega arith in rw (← c.same, drop_of_length-le s h, drop_of_length-le s q) (sym (up_to_none most n c.small))
 
-module _ {s : List ℕ} {from most n at : ℕ} (c : Counting s from most n at) where
-  pub counting_end : length s ≤ at → some (n, drop at s) ≡ up_to most 0 (drop from s)
-  counting_end h = rw (← c.same, drop_of_length-le s h) (sym (up_to_none most n c.small))
+  module _ (h : at < length s) where
+    pub counting_stop : digit (get_or s at 0) ≡ false → some (n, drop at s) ≡ up_to most 0 s
+    counting_stop e = rw (← c.same, drop-cons s at 0 h) (sym (up_to_stop most n (get_or s at 0) (drop (suc at) s) c.small e))
 
-  module _ {b : ℕ} (h : at < length s) (is : b ≡ get_or s at 0) where
-    pub counting_stop : digit b ≡ false → some (n, drop at s) ≡ up_to most 0 (drop from s)
-    counting_stop e = rw (← c.same, drop_is s at h is) (sym (up_to_stop most n b (drop (suc at) s) c.small e))
+    module _ (d : ℕ) (e : digit (get_or s at 0) ≡ true) (is : d ≡ get_or s at 0 - 48) (big : 9 ≤ most) where
+      more : up_to most (n * 10 + d) (drop (suc at) s) ≡ up_to most 0 s
+      more = rw is (sym (up_to_more most n (get_or s at 0) (drop (suc at) s) e) ∙ (rw (drop-cons s at 0 h) at c.same))
 
-    more : digit b ≡ true → up_to most (n * 10 + (b - 48)) (drop (suc at) s) ≡ up_to most 0 (drop from s)
-    more e = sym (up_to_more most n b (drop (suc at) s) e) ∙ (rw (drop_is s at h is) at c.same)
+      pub counting_over : (most - d) / 10 < n → none ≡ up_to most 0 s
+      counting_over k = sym (up_to_over most (n * 10 + d) (drop (suc at) s) (omega (arith, digit_below (get_or s at 0) e))) ∙ more
 
-    pub counting_over : digit b ≡ true → most < n * 10 + (b - 48) → none ≡ up_to most 0 (drop from s)
-    counting_over e k = sym (up_to-over most (n * 10 + (b - 48)) (drop (suc at) s) k) ∙ more e
+      pub counting_more : n ≤ (most - d) / 10 → Counting s most (n * 10 + d) (at + 1)
+      counting_more k = record { small = omega (arith, digit_below (get_or s at 0) e); same = rw (add-one at) more }
 
-    pub counting_more : digit b ≡ true → n * 10 + (b - 48) ≤ most → Counting s from most (n * 10 + (b - 48)) (at + 1)
-    counting_more e k = record { small = k; same = rw (add-one at) (more e) }
-
-pub counting_start : (s : List ℕ) (from most : ℕ) → Counting s from most 0 from
-counting_start s from most = record { small = omega arith; same = refl }
-
--- ---- the first byte
-pub head_at : (s : List ℕ) (at : ℕ) → get_or (drop at s) 0 0 ≡ get_or s at 0
-head_at s at = get_or-drop at s 0 0 ∙ ap (λ n. get_or s n 0) (add-zero at)
-
-pub next-at : (s : List ℕ) (at : ℕ) → get_or (drop at s) 1 0 ≡ get_or s (at + 1) 0
-next-at s at = get_or-drop at s 1 0
-
--- a byte that is not 0 stands in the slice
-pub inside : (s : List ℕ) (at : ℕ) → 0 < get_or s at 0 → at < length s
-inside s at h = by_end at (length s) (λ k. k) (λ k. let e : get_or s at 0 ≡ 0 = get_or-eq_default s 0 k in absurd (omega arith))
-
-pub plain-zero : (l : List ℕ) → get_or l 0 0 ≡ 48 → not (digit (get_or l 1 0)) ≡ plain (front digit l)
+-- ---- the first bytes
+pub plain_zero : (s : List ℕ) (k : ℕ) → 1 ≤ length s → length s ≤ k + 1 → get_or s 0 0 ≡ 48 → {d : Bool} → d ≡ digit (get_or (take k (drop 1 s)) 0 0) → not d ≡ plain (front digit s)
 unfolding plain
-plain-zero [] e = let z : ⊥ = omega arith in absurd z
-plain-zero (b ∷ []) e = rw e
-plain-zero (b ∷ c ∷ l) e = by-test (digit c) (λ t. rw (t, e)) (λ t. rw (t, e))
+plain_zero [] k h l e f = absurd (omega arith)
+plain_zero (b ∷ []) zero h l e f = rw (f, e)
+plain_zero (b ∷ []) (suc k) h l e f = rw (f, e)
+plain_zero (b ∷ c ∷ s) zero h l e f = absurd (omega arith)
+plain_zero (b ∷ c ∷ s) (suc k) h l e f = rw f (by-test (digit c) (λ t. rw (t, e)) (λ t. rw (t, e)))
 
-pub plain_other : (l : List ℕ) → eqb (get_or l 0 0) 48 ≡ false → digit (get_or l 0 0) ≡ plain (front digit l)
+pub plain_other : (s : List ℕ) → 1 ≤ length s → get_or s 0 0 ≢ 48 → digit (get_or s 0 0) ≡ plain (front digit s)
 unfolding plain
-plain_other [] e = refl
-plain_other (b ∷ []) e = by-test (digit b) (λ t. rw t) (λ t. rw t)
-plain_other (b ∷ c ∷ l) e = by-test (digit b) (λ t. by-test (digit c) (λ u. rw (t, u, e)) (λ u. rw (t, u))) (λ t. rw t)
+plain_other [] h n = refl
+plain_other (b ∷ []) h n = by-test (digit b) (λ t. rw t) (λ t. rw t)
+plain_other (b ∷ c ∷ s) h n = let e : eqb b 48 ≡ false = ne_eqb b 48 n in by-test (digit b) (λ t. by-test (digit c) (λ u. rw (t, u, e)) (λ u. rw (t, u))) (λ t. rw t)
+
+pub plain_none : (s : List ℕ) → length s < 1 → false ≡ plain (front digit s)
+unfolding plain
+plain_none [] h = refl
+plain_none (b ∷ s) h = absurd (omega arith)
 
 -- ---- words
-module _ (w s : List ℕ) (i at : ℕ) {goal : Option (List ℕ)} (same : word (drop i w) (drop at s) ≡ goal) where
-  pub word_more : i < length w → at < length s → get_or s at 0 ≡ get_or w i 0 → word (drop (i + 1) w) (drop (at + 1) s) ≡ goal
-  unfolding word
-  word_more h k e = rw (add-one i, add-one at, ← same, drop-cons w i 0 h, drop-cons s at 0 k, eq-eqb (get_or s at 0) (get_or w i 0) e)
+word_cases : (w s : List ℕ) → cond (starts_with nat_eq s w) (some (drop (length w) s)) none ≡ word w s
+unfolding word
+word_cases [] s = refl
+word_cases (c ∷ w) [] = refl
+word_cases (c ∷ w) (b ∷ s) = by-test (eqb b c) (λ e. rw (e, eq-eqb c b (sym (eqb-true b c e))) (word_cases w s)) (λ e. rw (e, ne_eqb c b (λ q. eqb-false b c e (sym q))))
 
-  pub word_other : i < length w → at < length s → (get_or s at 0 ≡ get_or w i 0 → ⊥) → none ≡ goal
-  unfolding word
-  word_other h k e = rw (← same, drop-cons w i 0 h, drop-cons s at 0 k, ne_eqb (get_or s at 0) (get_or w i 0) e)
+module _ (w s : List ℕ) (at : ℕ) {t : Bool} (value : t ≡ starts_with nat_eq (drop at s) w) where
+  pub word_is : t ≡ true → some (drop (at + length w) s) ≡ word w (drop at s)
+  word_is e = let q : starts_with nat_eq (drop at s) w ≡ true = sym value ∙ e in ap some (sym (drop-drop (length w) at s)) ∙ (rw q at (word_cases w (drop at s)))
 
-  pub word_short : i < length w → length s ≤ at → none ≡ goal
-  unfolding word
-  word_short h k = rw (← same, drop-cons w i 0 h, drop_of_length-le s k)
+  pub word_not : t ≡ false → none ≡ word w (drop at s)
+  word_not e = let q : starts_with nat_eq (drop at s) w ≡ false = sym value ∙ e in (rw q at (word_cases w (drop at s)))
 
-  pub word_end : length w ≤ i → some (drop at s) ≡ goal
-  unfolding word
-  word_end h = rw (← same, drop_of_length-le w h)
+-- ---- a number at a place
+module _ (most : ℕ) (s : List ℕ) (at : ℕ) {t : Bool} (value : t ≡ plain (front digit (drop at s))) where
+  pub number_not : t ≡ false → none ≡ number most (drop at s)
+  unfolding number
+  number_not e = rw (← value, e)
 
--- one byte
-module _ (s : List ℕ) (at b : ℕ) where
-  pub mark_yes : at < length s → get_or s at 0 ≡ b → some (drop (at + 1) s) ≡ word (b ∷ []) (drop at s)
-  mark_yes h e = word_end (b ∷ []) s 1 (at + 1) {goal = word (b ∷ []) (drop at s)} (word_more (b ∷ []) s 0 at refl (omega arith) h e) (omega arith)
+  number_is : t ≡ true → up_to most 0 (drop at s) ≡ number most (drop at s)
+  unfolding number
+  number_is e = rw (← value, e)
 
-  pub mark_no : at < length s → (get_or s at 0 ≡ b → ⊥) → none ≡ word (b ∷ []) (drop at s)
-  mark_no h e = word_other (b ∷ []) s 0 at refl (omega arith) h e
+  pub number_bad : t ≡ true → none ≡ up_to most 0 (drop at s) → none ≡ number most (drop at s)
+  number_bad e f = f ∙ number_is e
 
-  pub mark_short : length s ≤ at → none ≡ word (b ∷ []) (drop at s)
-  mark_short h = word_short (b ∷ []) s 0 at refl (omega arith) h
+  pub number_read : (n count : ℕ) → t ≡ true → some (n, drop count (drop at s)) ≡ up_to most 0 (drop at s) → some (n, drop (at + count) s) ≡ number most (drop at s)
+  number_read n count e f = ap (λ r. some (n, r)) (sym (drop-drop count at s)) ∙ f ∙ number_is e
 
--- ---- a number
-pub number-plain : (most : ℕ) (s : List ℕ) → plain (front digit s) ≡ true → up_to most 0 s ≡ number most s
-unfolding number
-number-plain most s e = rw e
+-- ---- a diff
+signed_minus : (s : List ℕ) {r : List ℕ} → some r ≡ word (45 ∷ []) s → then (number (suc max63) r) negated ≡ signed s
+unfolding signed word
+signed_minus [] e = absurd (cc)
+signed_minus (b ∷ s) {r} e = by-test (eqb b 45) (λ q. let d : some r ≡ some s = rw q at e in let p : r ≡ s = cc in rw (q, p)) (λ q. let d : some r ≡ none = rw q at e in absurd (cc))
 
-pub number-not : (most : ℕ) (s : List ℕ) → plain (front digit s) ≡ false → none ≡ number most s
-unfolding number
-number-not most s e = rw e
+signed_plain : (s : List ℕ) → none ≡ word (45 ∷ []) s → then (number max63 s) (λ n. some (pos n.0, n.1)) ≡ signed s
+unfolding signed word number plain
+signed_plain [] e = refl
+signed_plain (b ∷ s) e = by-test (eqb b 45) (λ q. let d : none ≡ some s = rw q at e in absurd (cc)) (λ q. rw q)
 
-module _ (s : List ℕ) (at : ℕ) {b : ℕ} (is : b ≡ get_or s at 0) where
-  pub plain-at-zero : {d : Bool} {x : ℕ} → b ≡ 48 → x ≡ get_or s (at + 1) 0 → d ≡ digit x → not d ≡ plain (front digit (drop at s))
-  plain-at-zero e f g = rw (g, f, ← next-at s at) (plain-zero (drop at s) (head_at s at ∙ sym is ∙ e))
+module _ (s : List ℕ) where
+  module _ {r : List ℕ} (minus : some r ≡ word (45 ∷ []) s) where
+    pub minus_none : none ≡ number (suc max63) r → none ≡ signed s
+    minus_none e = rw (← signed_minus s minus, ← e)
 
-  pub plain-at_other : {d : Bool} → (b ≡ 48 → ⊥) → d ≡ digit b → d ≡ plain (front digit (drop at s))
-  plain-at_other n g = g ∙ ap digit (is ∙ sym (head_at s at)) ∙ plain_other (drop at s) (ne_eqb (get_or (drop at s) 0 0) 48 (λ e. n (is ∙ sym (head_at s at) ∙ e)))
+    pub minus_zero : {n : ℕ} {r' : List ℕ} → some (n, r') ≡ number (suc max63) r → n ≡ 0 → none ≡ signed s
+    unfolding negated
+    minus_zero e z = rw (← signed_minus s minus, ← e, z)
 
-  pub inside_is : 0 < b → at < length s
-  inside_is h = inside s at (rw is at h)
+    pub minus_all : {n : ℕ} {r' : List ℕ} {z : ℤ} → some (n, r') ≡ number (suc max63) r → 0 < n → z ≡ negsuc (n - 1) → some (z, r') ≡ signed s
+    unfolding negated
+    minus_all {n} {r'} e h q = rw (← signed_minus s minus, ← e, q) (go n h)
+      where
+        go : (m : ℕ) → 0 < m → some (negsuc (m - 1), r') ≡ negated (m, r')
+        go zero k = absurd (omega arith)
+        go (suc m) k = let i : suc m - 1 ≡ m = omega arith in rw i
+
+  module _ (plus : none ≡ word (45 ∷ []) s) where
+    pub plus_none : none ≡ number max63 s → none ≡ signed s
+    plus_none e = rw (← signed_plain s plus, ← e)
+
+    pub plus_all : {n : ℕ} {r : List ℕ} {z : ℤ} → some (n, r) ≡ number max63 s → z ≡ pos n → some (z, r) ≡ signed s
+    plus_all e q = rw (← signed_plain s plus, ← e, q)
+
+-- a diff that goes through a local is read back from its bits
+pub kept : (z : ℤ) {x : ℤ} → z ≡ x → mag x < 2 ^ 63 → to_z w64 (of_z w64 z) ≡ x
+kept z e h = ap (λ y. to_z w64 (of_z w64 y)) e ∙ back h

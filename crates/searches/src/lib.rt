@@ -22,14 +22,12 @@ fn spans_of(keys: &[u64], run: &[u64], start: usize, from: &mut [usize], to: &mu
     requires { SearchRoom (length keys.now) from.old to.old }
     ensures { Searched run.now start keys.now from.old to.old from.new to.new result }
 {
-    let mut b = 0;
     let mut at = start;
-    while b < keys.len() {
-        let s = span_of(run, at, KeyHash(keys[b]));
+    for (b, key) in keys.iter().enumerate() {
+        let s = span_of(run, at, KeyHash(*key));
         from[b] = s.from;
         to[b] = s.to;
         at = s.to;
-        b += 1;
     }
     at
 }

@@ -121,9 +121,7 @@ pub fn seek_window(
         input: at.input,
         out: at.out,
         pended: t.pended,
-        fixes: p.fixes,
-        crossings: p.crossings,
-        large: p.large,
         over: t.over,
+        ..p
     }
 }

@@ -1,10 +1,9 @@
 -- What becomes of n: the arms of `act`.
 --
 -- lent, settled: a moment. joined_only: short of upper and not interesting. pended_keen, pended_dull: beyond upper, interesting and not
--- finished: the meet was taken, and the tracked times joined with it
-use Prim.Native.Nat.{ℕ, ◌+◌, ◌-◌, ◌≤◌}
+-- recounted: a walk with other counts of waiting joins and of pended times
+use Prim.Native.Nat.{ℕ, ◌+◌, ◌≤◌}
 use native.Mathlib.Omega.{arith}
-use native.Mathlib.Nat.{sub-zero}
 use native.Mathlib.Numerals.{add-one}
 use mathlib.Core.Bool.{Bool, true, false}
 use mathlib.Core.List.{List, [], ◌∷◌, ◌++◌, map}
@@ -13,12 +12,12 @@ use mathlib.Core.Path.{◌≡◌, refl, sym, ◌∙◌, ap}
 use lib.IntN.{ℤ}
 use lib.ListN.{length, take, set}
 use lib.Seq.{take-suc-set}
-use Rattle.grid.specs.Times.{joined, meets, put, puts}
+use Rattle.grid.specs.Times.{put}
 use Rattle.grid.specs.Frontiers.{beyond}
 use Rattle.grid.proofs.Operations.{map-take}
 use Rattle.grid.proofs.Slices.{drop-later}
 use Rattle.times.specs.Meets.{optional}
-use Rattle.times.specs.declared.optional.Meet.{Meet}
+use Rattle.times.specs.Meets.{Meet}
 use Rattle.rules.specs.Histories.{Edit, time_of, advance_times, advance_edits}
 use Rattle.edits.specs.Buffers.{LentBuffer}
 use Rattle.edits.specs.Edits.{edits, Alike}
@@ -26,10 +25,13 @@ use Rattle.edits.proofs.Edits.{times-edits, diffs-edits}
 use Rattle.advances.specs.Renewed.{Renewed}
 use Rattle.joins.specs.Sets.{Set, Grown, same, over, Put, Made}
 use Rattle.joins.proofs.Sets.{made_then, joins-append}
-use Rattle.steps.specs.Parts.{made_of, Acting, Finishing, Ready, recounted}
+use Rattle.steps.specs.Parts.{made_of, Acting, Ready}
 use Rattle.pops.specs.Standing.{weight}
 use Rattle.steps.specs.Walks.{Worked}
 use Rattle.pops.specs.declared.Walk.{Walk}
+
+abbrev pub recounted : Walk → ℕ → ℕ → Walk
+recounted q w p = record { seeds = q.seeds; pending = q.pending; input = q.input; output = q.output; waiting = w; tracked = q.tracked; moments = q.moments; pended = p; m = q.m }
 
 module _ {seeds tracked times values : List ℕ} {diffs : List ℤ} {output waiting pended moments work places wvalues : List ℕ} {wdiffs : List ℤ} {q : Walk}
     (g : Ready seeds tracked times values diffs output waiting pended moments work places wvalues wdiffs q) where
@@ -94,13 +96,13 @@ module _ (upper : List ℕ) (n : ℕ) {seeds tracked times values : List ℕ} {d
       }
 
 module _ (upper : List ℕ) (n : ℕ) (keen : Bool) (m : Option ℕ) (seedb trackb : List ℕ) (E : List Edit) (output waiting pended moments : List ℕ) (q : Walk) where
-  module _ (waiting' pended' : List ℕ) {w p : ℕ} (r : Walk) (e : r ≡ recounted q w p) where
+  module _ (waiting' pended' : List ℕ) {w p : ℕ} where
     pub joined_only : beyond upper n ≡ false → keen ≡ false
         → (Set waiting' w × Set pended' p) × Made upper n (seedb ++ trackb) (take q.waiting waiting) (take w waiting') (take q.pended pended) (take p pended')
-        → Acting upper n keen m seedb trackb E output waiting pended moments q E output waiting' pended' moments r
+        → Acting upper n keen m seedb trackb E output waiting pended moments q E output waiting' pended' moments (recounted q w p)
     unfolding made_of
     joined_only b k u =
-        rw e (record {
+        record {
           input_is = rw (b, k);
           input_fewer = omega arith;
           input_at = refl;
@@ -118,18 +120,18 @@ module _ (upper : List ℕ) (n : ℕ) (keen : Bool) (m : Option ℕ) (seedb trac
           same_seeds = refl;
           same_pending = refl;
           same_tracked = refl;
-        })
+        }
 
   one_put : {us l : List ℕ} → Grown (n ∷ []) us l → Grown [] (put n us) l
   one_put (same e) = same e
   one_put (over e f) = over e f
 
   module _ (b : beyond upper n ≡ true) where
-    pub pended_keen : (pended' : List ℕ) {p : ℕ} (r : Walk) → keen ≡ true → Set waiting q.waiting → Put n pended q.pended pended' p → r ≡ recounted q q.waiting p
-        → Acting upper n keen m seedb trackb E output waiting pended moments q E output waiting pended' moments r
+    pub pended_keen : (pended' : List ℕ) {p : ℕ} → keen ≡ true → Set waiting q.waiting → Put n pended q.pended pended' p
+        → Acting upper n keen m seedb trackb E output waiting pended moments q E output waiting pended' moments (recounted q q.waiting p)
     unfolding made_of
-    pended_keen pended' {p} r k s u e =
-        rw e (record {
+    pended_keen pended' {p} k s u =
+        record {
           input_is = rw (b, k);
           input_fewer = omega arith;
           input_at = refl;
@@ -147,7 +149,7 @@ module _ (upper : List ℕ) (n : ℕ) (keen : Bool) (m : Option ℕ) (seedb trac
           same_seeds = refl;
           same_pending = refl;
           same_tracked = refl;
-        })
+        }
 
     pub pended_dull : keen ≡ false → Set waiting q.waiting → Set pended q.pended → Acting upper n keen m seedb trackb E output waiting pended moments q E output waiting pended moments q
     unfolding made_of
@@ -171,16 +173,3 @@ module _ (upper : List ℕ) (n : ℕ) (keen : Bool) (m : Option ℕ) (seedb trac
           same_pending = refl;
           same_tracked = refl;
         }
-
--- an arm that is chosen by `keen`
-pub keenly : {keen : Bool} {upper : List ℕ} {n : ℕ} {m : Option ℕ} {seedb trackb : List ℕ} {E : List Edit} {output waiting pended moments : List ℕ} {q : Walk} {E' : List Edit} {output' waiting' pended' moments' : List ℕ} {r : Walk} → keen ≡ true
-    → Acting upper n true m seedb trackb E output waiting pended moments q E' output' waiting' pended' moments' r → Acting upper n keen m seedb trackb E output waiting pended moments q E' output' waiting' pended' moments' r
-keenly e a = rw e a
-
--- ---- the meet of all that remains
-pub finished : {ahead : Option ℕ} (waiting : List ℕ) {tracked tracked' : List ℕ} (w : Walk) {m : Meet} {t : ℕ}
-    → optional m ≡ meets (take (w.waiting - 0) waiting) ahead
-    → (t ≤ w.tracked) × (take t tracked' ≡ puts (map (joined (optional m)) (take w.tracked tracked)) [])
-    → Finishing ahead (take w.waiting waiting) tracked tracked' w
-    (record { seeds = w.seeds; pending = w.pending; input = w.input; output = w.output; waiting = w.waiting; tracked = t; moments = w.moments; pended = w.pended; m = m })
-finished waiting w e f = record { m_is = rw sub-zero at e; tracked_is = f.1; tracked_fewer = f.0; same_rest = refl }

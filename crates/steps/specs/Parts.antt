@@ -3,7 +3,6 @@
 -- made_of: the joins that are made of n. is_made: whether n is a moment
 -- Acting: what became of n; m is what the buffers are advanced by
 -- Finishing: the waiting joins met with the meet of what is ahead, and the tracked times joined with all that
--- recounted: a walk with other counts of waiting joins and of pended times
 use Rattle.std.specs.Prelude.{ℕ, ◌+◌, ◌≤◌, ◌<◌, Bool, cond, ◌&&◌, List, [], ◌∷◌, ◌++◌, map, ◌≡◌, ℤ, length, take, drop}
 use Rattle.std.proofs.Math.Option.{Option}
 use Rattle.grid.specs.Lists.{keep}
@@ -50,9 +49,6 @@ pub record Finishing (ahead : Option ℕ) (waits tracked tracked' : List ℕ) (a
   pub tracked_is : take r.tracked tracked' ≡ puts (map (joined (optional r.m)) (take a.tracked tracked)) []
   pub tracked_fewer : r.tracked ≤ a.tracked
   pub same_rest : r ≡ record { seeds = a.seeds; pending = a.pending; input = a.input; output = a.output; waiting = a.waiting; tracked = r.tracked; moments = a.moments; pended = a.pended; m = r.m }
-
-abbrev pub recounted : Walk → ℕ → ℕ → Walk
-recounted q w p = record { seeds = q.seeds; pending = q.pending; input = q.input; output = q.output; waiting = w; tracked = q.tracked; moments = q.moments; pended = p; m = q.m }
 
 -- what is asked of the columns where n is acted upon
 pub record Ready (seeds tracked times values : List ℕ) (diffs : List ℤ) (output waiting pended moments work places wvalues : List ℕ) (wdiffs : List ℤ) (q : Walk) : Type 0 where

@@ -4,40 +4,26 @@ ghost use Rattle.std.specs.Prelude.{true, false, ◌||◌, ◌++◌, ◌≡◌, 
 ghost use Rattle.grid.specs.Frontiers.{beyond};
 ghost use Rattle.times.specs.Meets.{optional};
 ghost use Rattle.edits.specs.Edits.{edits};
-ghost use Rattle.steps.specs.Parts.{Ready, Acting, Finishing, recounted};
+ghost use Rattle.steps.specs.Parts.{Ready, Acting, Finishing};
 
 use advances::{advance_edits, advance_times};
 use histories::Place;
 use joins::{Counts, join_both, put_time, retrack};
 use pops::Walk;
-use times::{Meet, PackedTime, is_beyond, meets};
+use times::{PackedTime, is_beyond, meets};
 
 // n is interesting if one was popped that makes it so, or if a seed_buffer or tracked time is at or below it.
-pub fn is_interesting(
-    hit: bool,
-    seeds: &[u64],
-    scount: usize,
-    tracked: &[u64],
-    tcount: usize,
-    n: PackedTime,
-) -> bool
-    requires { (scount ≤ length seeds.now) × (tcount ≤ length tracked.now) }
-    ensures { result ≡ (hit || beyond (take scount seeds.now ++ take tcount tracked.now) n.0) }
+pub fn is_interesting(hit: bool, seeds: &[u64], tracked: &[u64], n: PackedTime) -> bool
+    ensures { result ≡ (hit || beyond (seeds.now ++ tracked.now) n.0) }
 {
-    if hit {
-        return true;
-    }
-    if is_beyond(&seeds[0..scount], n) {
-        return true;
-    }
-    is_beyond(&tracked[0..tcount], n)
+    hit || is_beyond(seeds, n) || is_beyond(tracked, n)
 }
 
 // A moment: the histories' buffers are advanced, and n is joined with the four buffers.
 fn settle(
     upper: &[u64],
     n: PackedTime,
-    m: Meet,
+    m: Option<PackedTime>,
     seeds: &[u64],
     tracked: &[u64],
     times: &mut [u64],
@@ -57,60 +43,49 @@ fn settle(
     requires n_value { beyond upper.now n.0 ≡ false }
     ensures { Acting upper.now n.0 true (optional m) (take q.seeds.count seeds.now) (take q.tracked tracked.now) (edits times.old values.old diffs.old) output.old waiting.old pended.old moments.old q (edits times.new values.new diffs.new) output.new waiting.new pended.new moments.new result }
 {
-    let s = q.seeds;
-    let i = q.input;
-    let o = q.output;
-    let k = q.moments;
-    moments[k] = n.0;
-    let after = k + 1;
+    moments[q.moments] = n.0;
     let icount = advance_edits(
-        times, values, diffs, i.count, m, places, wvalues, work, wdiffs,
+        times,
+        values,
+        diffs,
+        q.input.count,
+        m,
+        places,
+        wvalues,
+        work,
+        wdiffs,
     );
-    let ocount = advance_times(output, o.count, m, work);
+    let ocount = advance_times(output, q.output.count, m, work);
     let counts = Counts {
         waiting: q.waiting,
         pended: q.pended,
     };
     let c = join_both(
-        upper, n, seeds, s.count, tracked, q.tracked, waiting, pended, counts,
+        upper,
+        n,
+        seeds,
+        q.seeds.count,
+        tracked,
+        q.tracked,
+        waiting,
+        pended,
+        counts,
     );
     let d = join_both(upper, n, times, icount, output, ocount, waiting, pended, c);
     Walk {
-        seeds: s,
-        pending: q.pending,
         input: Place {
             count: icount,
-            at: i.at,
+            ..q.input
         },
         output: Place {
             count: ocount,
-            at: o.at,
+            ..q.output
         },
         waiting: d.waiting,
-        tracked: q.tracked,
-        moments: after,
+        moments: q.moments + 1,
         pended: d.pended,
         m,
-    }
-}
-
-fn recount(q: Walk, waiting: usize, pended: usize) -> Walk
-    ensures { result ≡ recounted q waiting pended }
-{
-    let seeds = q.seeds;
-    let input = q.input;
-    let output = q.output;
-    let m = q.m;
-    Walk {
-        seeds,
-        pending: q.pending,
-        input,
-        output,
-        waiting,
-        tracked: q.tracked,
-        moments: q.moments,
-        pended,
-        m,
+        ..q
     }
 }
 
@@ -119,7 +94,7 @@ pub fn act(
     upper: &[u64],
     n: PackedTime,
     keen: bool,
-    m: Meet,
+    m: Option<PackedTime>,
     seeds: &[u64],
     tracked: &[u64],
     times: &mut [u64],
@@ -140,48 +115,57 @@ pub fn act(
 {
     if is_beyond(upper, n) {
         if keen {
-            let p = put_time(pended, q.pended, n);
-            return recount(q, q.waiting, p);
+            Walk {
+                pended: put_time(pended, q.pended, n),
+                ..q
+            }
+        } else {
+            q
         }
-        return q;
-    }
-    if keen {
-        return settle(
+    } else if keen {
+        settle(
             upper, n, m, seeds, tracked, times, values, diffs, output, waiting, pended, moments,
             work, places, wvalues, wdiffs, q,
+        )
+    } else {
+        let counts = Counts {
+            waiting: q.waiting,
+            pended: q.pended,
+        };
+        let c = join_both(
+            upper,
+            n,
+            seeds,
+            q.seeds.count,
+            tracked,
+            q.tracked,
+            waiting,
+            pended,
+            counts,
         );
+        Walk {
+            waiting: c.waiting,
+            pended: c.pended,
+            ..q
+        }
     }
-    let s = q.seeds;
-    let counts = Counts {
-        waiting: q.waiting,
-        pended: q.pended,
-    };
-    let c = join_both(
-        upper, n, seeds, s.count, tracked, q.tracked, waiting, pended, counts,
-    );
-    recount(q, c.waiting, c.pended)
 }
 
 // "m becomes the meet of all that remains; tracked times are joined with it, equals removed." `ahead` is the meet of what is ahead in the histories.
-pub fn finish(ahead: Meet, waiting: &[u64], tracked: &mut [u64], work: &mut [u64], a: Walk) -> Walk
+pub fn finish(
+    ahead: Option<PackedTime>,
+    waiting: &[u64],
+    tracked: &mut [u64],
+    work: &mut [u64],
+    a: Walk,
+) -> Walk
     requires { (a.waiting ≤ length waiting.now) × ((a.tracked ≤ length tracked.old) × (length tracked.old ≤ length work.old)) }
     ensures { Finishing (optional ahead) (take a.waiting waiting.now) tracked.old tracked.new a result }
 {
-    let s = a.seeds;
-    let i = a.input;
-    let o = a.output;
-    let w = a.waiting;
-    let m = meets(&waiting[0..w], ahead);
-    let t = retrack(m, tracked, a.tracked, work);
+    let m = meets(&waiting[..a.waiting], ahead);
     Walk {
-        seeds: s,
-        pending: a.pending,
-        input: i,
-        output: o,
-        waiting: w,
-        tracked: t,
-        moments: a.moments,
-        pended: a.pended,
+        tracked: retrack(m, tracked, a.tracked, work),
         m,
+        ..a
     }
 }

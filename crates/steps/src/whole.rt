@@ -12,13 +12,7 @@ use times::PackedTime;
 pub fn is_over(w: Walk) -> bool
     ensures { result ≡ over_of w }
 {
-    if w.moments > MOST_MOMENTS {
-        return true;
-    }
-    if w.waiting > MOST_MOMENTS {
-        return true;
-    }
-    w.pended > MOST_MOMENTS
+    w.moments > MOST_MOMENTS || w.waiting > MOST_MOMENTS || w.pended > MOST_MOMENTS
 }
 
 // Steps all five past n, acts upon n, and takes the meet of all that remains. n is gone from `ahead`; m still covers it, and buffers are advanced by m.
@@ -51,36 +45,34 @@ pub fn step(
     requires worked { Worked seeds.old times.old output.old tracked.old work.old places.old wvalues.old wdiffs.old }
     requires calm { Calm upper.now (state_of seeds.old pending.now times.old values.old diffs.old output.old waiting.old tracked.old moments.old pended.old p) }
     ensures steps { Steps upper.now n.0 (state_of seeds.old pending.now times.old values.old diffs.old output.old waiting.old tracked.old moments.old pended.old p) (state_of seeds.new pending.now times.new values.new diffs.new output.new waiting.new tracked.new moments.new pended.new result) }
-    ensures standing_2 { Standing seeds.new pending.now times.new values.new diffs.new output.new result }
-    ensures known_2 { Known seeds.new seedm.now pending.now pendm.now times.new inputm.now output.new outputm.now result }
-    ensures roomy_2 { Roomy pending.now waiting.new tracked.new moments.new pended.new result }
+    ensures still_standing { Standing seeds.new pending.now times.new values.new diffs.new output.new result }
+    ensures still_known { Known seeds.new seedm.now pending.now pendm.now times.new inputm.now output.new outputm.now result }
+    ensures still_roomy { Roomy pending.now waiting.new tracked.new moments.new pended.new result }
 {
     let s = pop_all(
         n, seeds, pending, times, values, diffs, output, waiting, tracked, work, p,
     );
     let q = s.walk;
-    let m = q.m;
-    let places_of_seeds = q.seeds;
-    let places_of_input = q.input;
-    let places_of_output = q.output;
     let ahead = meet_of_four(
         seeds,
         seedm,
-        places_of_seeds.at,
+        q.seeds.at,
         pending,
         pendm,
         q.pending,
         times,
         inputm,
-        places_of_input.at,
+        q.input.at,
         output,
         outputm,
-        places_of_output.at,
+        q.output.at,
     );
-    let keen = is_interesting(s.hit, seeds, places_of_seeds.count, tracked, q.tracked, n);
+    let seed_buffer = &seeds[..q.seeds.count];
+    let tracked_times = &tracked[..q.tracked];
+    let keen = is_interesting(s.hit, seed_buffer, tracked_times, n);
     let a = act(
-        upper, n, keen, m, seeds, tracked, times, values, diffs, output, waiting, pended, moments,
-        work, places, wvalues, wdiffs, q,
+        upper, n, keen, q.m, seeds, tracked, times, values, diffs, output, waiting, pended,
+        moments, work, places, wvalues, wdiffs, q,
     );
     finish(ahead, waiting, tracked, work, a)
 }

@@ -1,21 +1,15 @@
--- The loop that makes a cut, and the loop that compares two.
+-- The loop that makes a cut.
 --
 -- Cutting upper later f₀ f i count: the later held times from i on are inserted into upper, in the first `count` of f, which is as long as f₀
--- cutting_start, cutting_more, cutting_end: the loop keeps that
--- same_length: lists of unequal lengths are not the same. same_hit, same_miss, same_end: the elements at i differ, are equal, all is read
+-- cutting_start, cutting_turn, cutting_end: the loop keeps that, as long as it has the front of the later held times
 use Prim.Native.Nat.{ℕ, suc, ◌+◌, ◌-◌, ◌≤◌, ◌<◌}
 use native.Mathlib.Omega.{arith}
-use native.Mathlib.Numerals.{add-one}
-use mathlib.Core.Bool.{Bool, true, false}
 use mathlib.Core.List.{List, [], ◌∷◌, ◌++◌}
-use mathlib.Core.Path.{◌≡◌, refl, ◌∙◌, ap, subst}
-use lib.Dec.{eqb}
-use lib.ListN.{length, take, drop, get_or, length-drop, drop_of_length-le}
-use lib.Seq.{drop-cons, drop-length}
-use borrow.Author.Tests.{eq-eqb, ne_eqb}
-use Rattle.grid.specs.Lists.{same}
+use mathlib.Core.Path.{◌≡◌, refl, sym, ◌∙◌, ap, subst}
+use lib.ListN.{length, take, drop, get_or, length-drop, length-append}
+use lib.Seq.{take_at, take-take, drop-cons, drop-length}
+use Rattle.std.proofs.lemmas.Grind.{common_steps}
 use Rattle.grid.specs.Frontiers.{inserted, all_inserted}
-use Rattle.grid.proofs.Tests.{by-test}
 use Rattle.grid.proofs.Frontiers.{inserted-length, all_inserted-length}
 use Rattle.grid.specs.Slices.{Laid}
 use Rattle.times.specs.Frontiers.{Inserted}
@@ -35,7 +29,7 @@ cutting_start {upper} {later} {f₀} {f} {count} h l =
     record { within = omega arith; same = refl; fits = omega arith; front = rw drop-length (record { counted = l.counted; within = omega (arith, l.counted); holds = laid_front l (omega arith) }) }
 
 module _ {upper later f₀ f : List ℕ} {i count : ℕ} (w : Cutting upper later f₀ f i count) where
-  pub cutting_more : {f' : List ℕ} {r : ℕ} → 0 < i → Inserted (get_or later (i - 1) 0) f count f' r → Cutting upper later f₀ f' (i - 1) r
+  cutting_more : {f' : List ℕ} {r : ℕ} → 0 < i → Inserted (get_or later (i - 1) 0) f count f' r → Cutting upper later f₀ f' (i - 1) r
   unfolding all_inserted
   cutting_more {f'} {r} h ins =
       let b : i ≤ length later = w.within in
@@ -56,22 +50,23 @@ module _ {upper later f₀ f : List ℕ} {i count : ℕ} (w : Cutting upper late
         front = rw d (record { counted = l.counted; within = omega (arith, w.fits, l.counted); holds = laid_front l (omega (arith, w.fits)) });
       }
 
-  pub cutting_end : i ≤ 0 → Front (all_inserted later upper) f count
-  cutting_end h = let z : i ≡ 0 = omega arith in subst (λ n. Front (all_inserted (drop n later) upper) f count) z w.front
+  pub cutting_end : i ≡ 0 → Front (all_inserted later upper) f count
+  cutting_end z = subst (λ n. Front (all_inserted (drop n later) upper) f count) z w.front
 
--- ---- two cuts compared
-pub same_length : (f g : List ℕ) → (length f ≡ length g → ⊥) → false ≡ same f g
-same_length [] [] n = absurd (n refl)
-same_length [] (y ∷ g) n = refl
-same_length (x ∷ f) [] n = refl
-same_length (x ∷ f) (y ∷ g) n = by-test (eqb x y) (λ e. rw e (same_length f g (λ k. n (ap suc k)))) (λ e. rw e)
+-- the last of the times that are left, and those before it
+module _ (later : List ℕ) (rest before : List ℕ) (t : ℕ) (e : rest ≡ take (length rest) later) (p : rest ≡ before ++ t ∷ []) where
+  one_less : length rest ≡ length before + 1
+  one_less = ap length p ∙ length-append before (t ∷ [])
 
-module _ (f g : List ℕ) (i : ℕ) {a : Bool} where
-  pub same_hit : length f ≡ length g → i < length f → same (drop i f) (drop i g) ≡ a → (get_or f i 0 ≡ get_or g i 0 → ⊥) → false ≡ a
-  same_hit l h e n = rw (← e, drop-cons f i 0 h, drop-cons g i 0 (omega arith), ne_eqb (get_or f i 0) (get_or g i 0) n)
+  last_read : length rest ≤ length later → t ≡ get_or later (length before) 0
+  last_read h = grind (arith, common_steps)
 
-  pub same_miss : length f ≡ length g → i < length f → same (drop i f) (drop i g) ≡ a → get_or f i 0 ≡ get_or g i 0 → same (drop (i + 1) f) (drop (i + 1) g) ≡ a
-  same_miss l h e n = rw (← e, drop-cons f i 0 h, drop-cons g i 0 (omega arith), eq-eqb (get_or f i 0) (get_or g i 0) n, add-one)
+  still_front : before ≡ take (length before) later
+  still_front =
+      sym (take_at before (t ∷ []) (length before) refl) ∙ ap (take (length before)) (sym p ∙ e) ∙ take-take (length before) (length rest) later (omega (arith, one_less))
 
-  pub same_end : length f ≡ length g → length f ≤ i → same (drop i f) (drop i g) ≡ a → true ≡ a
-  same_end l h e = rw (← e, drop_of_length-le f {i = i} h, drop_of_length-le g {i = i} (omega arith))
+  pub cutting_turn : {upper f₀ f f' : List ℕ} {count r : ℕ} → Cutting upper later f₀ f (length rest) count → Inserted t f count f' r → (before ≡ take (length before) later) × Cutting upper later f₀ f' (length before) r
+  cutting_turn {f = f} {f' = f'} {count = count} {r = r} w ins =
+      let n : length rest - 1 ≡ length before = omega (arith, one_less) in
+      let here : Inserted (get_or later (length rest - 1) 0) f count f' r = rw (n, ← last_read w.within) ins in
+      (still_front, rw n at (cutting_more w (omega (arith, one_less)) here))

@@ -1,14 +1,13 @@
 -- All tiles and all places.
 --
--- fitting-roomy: what fits is roomy. described_refused: what does not fit
+-- fitting-roomy: what fits is roomy.
 -- fits_places: there is room for a place beside each held time. tiled_count: and for the tiles' held times. described_tiled: tiles and places written
 -- described_tile: the place beside the last held time at or below t is that of the rules' tile
-use Prim.Native.Nat.{ℕ, ◌*◌, ◌-◌, ◌≤◌, ◌<◌}
+use Prim.Native.Nat.{ℕ, ◌*◌, ◌≤◌, ◌<◌}
 use native.Mathlib.Omega.{arith}
-use native.Mathlib.Nat.{sub-zero}
-use mathlib.Core.Bool.{true, false, ◌&&◌}
+use mathlib.Core.Bool.{true, ◌&&◌}
 use mathlib.Core.List.{List, ◌++◌, map}
-use mathlib.Core.Path.{◌≡◌, refl, sym, ◌∙◌, ap, subst}
+use mathlib.Core.Path.{◌≡◌, sym, ◌∙◌, ap, subst}
 use lib.Dec.{leb}
 use lib.ListN.{length, take, drop, length-map}
 use borrow.Author.Tests.{leb-true}
@@ -49,9 +48,6 @@ module _ (lower upper held out places : ℕ) (e : fitting lower upper held out p
   }
 
 module _ (lower upper held out places : List ℕ) where
-  pub described_refused : fitting (length lower) (length upper) (length held) (length out) (length places) ≡ false → Described lower upper held out out places places 0
-  described_refused e = record { tiled = λ k. clash (fitting (length lower) (length upper) (length held) (length out) (length places)) k e; refused = λ _. (refl, (refl, refl)) }
-
   module _ (e : fitting (length lower) (length upper) (length held) (length out) (length places) ≡ true) {out' times times' : List ℕ} {count : ℕ} (room : most_times ≤ length times)
       (t : Tiled (tiles lower upper held) out out' times times' count) where
     helds_length : length (held_times (tiles lower upper held)) ≡ length (tiles lower upper held)
@@ -65,15 +61,14 @@ module _ (lower upper held out places : List ℕ) where
     pub tiled_count : count ≤ length times'
     tiled_count = let n : length times' ≡ length times = ap length t.helds.holds ∙ laid-length _ times in omega (arith, few)
 
-    pub described_tiled : {places' : List ℕ} {r : ℕ} → Laid (map (λ h. position h (take (count - 0) times')) held) places places' r → Described lower upper held out out' places places' count
+    pub described_tiled : {places' : List ℕ} {r : ℕ} → Laid (map (λ h. position h (take count times')) held) places places' r → Described lower upper held out out' places places' count
     described_tiled {places'} {r} l =
         let ts = tiles lower upper held in
         let f : take count times' ≡ held_times ts = laid_front t.helds (omega (arith, few, t.helds.counted)) in
-        let l' : Laid (map (λ h. position h (take count times')) held) places places' r = rw (sub-zero count) at l in
         let p : map (λ h. position h (take count times')) held ≡ map (λ h. place h ts) held =
         ap (λ xs. map (λ h. position h xs) held) f ∙ (λ i. map (λ h. sym (place-position h ts) i) held) in
         record {
-          tiled = λ _. (t.helds.counted ∙ helds_length, (t.numbers.holds, (subst (λ xs. Laid xs places places' r) p l').holds));
+          tiled = λ _. (t.helds.counted ∙ helds_length, (t.numbers.holds, (subst (λ xs. Laid xs places places' r) p l).holds));
           refused = λ k. clash (fitting (length lower) (length upper) (length held) (length out) (length places)) e k;
         }
 

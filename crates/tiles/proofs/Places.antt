@@ -1,17 +1,16 @@
 -- The places of tiles, beside the held times.
 --
--- position_hit, position_miss, position_end: the element at i is it, is not it, all is read
+-- position_hit, position_miss: the first element is it, is not it
 -- placing_start, placing_more, placing_end: the loop that writes the places
 -- Seeking held places t i: no held time from i on is at or below t. seeking_start, seeking_more, seeking_hit, seeking_none: the loop keeps that
 -- place-position: a tile's place, by the tiles' held times
 -- beside_tile: the place beside the last held time at or below t is that of the rules' tile
 use Prim.Native.Nat.{ℕ, zero, suc, ◌+◌, ◌-◌, ◌≤◌, ◌<◌, min}
 use native.Mathlib.Omega.{arith}
-use native.Mathlib.Numerals.{add-one}
 use mathlib.Core.Bool.{Bool, true, false}
 use mathlib.Core.List.{List, [], ◌∷◌, ◌++◌, map}
 use mathlib.Core.Option.{Option, none, some}
-use mathlib.Core.Path.{◌≡◌, refl, sym, ◌∙◌, ap}
+use mathlib.Core.Path.{◌≡◌, refl, sym, ◌∙◌, ap, subst}
 use lib.Dec.{eqb}
 use lib.ListN.{length, drop, get_or, set, length-set, drop_of_length-le}
 use lib.Seq.{drop-cons}
@@ -27,16 +26,11 @@ use Rattle.grid.proofs.Slices.{Laying, laying_start, laying_more, laying_end}
 use Rattle.tiles.specs.Described.{held_times, position, place_beside}
 
 -- ---- the position of an element
-module _ (x : ℕ) (xs : List ℕ) (i : ℕ) where
-  pub position_hit : i < length xs → position x xs ≡ i + position x (drop i xs) → get_or xs i 0 ≡ x → i ≡ position x xs
-  position_hit h e t = rw (e, drop-cons xs i 0 h, eq-eqb x (get_or xs i 0) (sym t)) (omega arith)
+pub position_hit : (x y : ℕ) (ys : List ℕ) → y ≡ x → position x (y ∷ ys) ≡ 0
+position_hit x y ys e = rw (eq-eqb x y (sym e))
 
-  pub position_miss : i < length xs → position x xs ≡ i + position x (drop i xs) → (get_or xs i 0 ≡ x → ⊥) → position x xs ≡ (i + 1) + position x (drop (i + 1) xs)
-  position_miss h e n =
-      e ∙ ap (λ l. i + position x l) (drop-cons xs i 0 h) ∙ rw (ne_eqb x (get_or xs i 0) (λ q. n (sym q)), add-one) (omega arith)
-
-  pub position_end : length xs ≤ i → position x xs ≡ i + position x (drop i xs) → i ≡ position x xs
-  position_end h e = rw (e, drop_of_length-le xs {i = i} h) (omega arith)
+pub position_miss : (x y : ℕ) (ys : List ℕ) → (y ≡ x → ⊥) → position x (y ∷ ys) ≡ position x ys + 1
+position_miss x y ys n = rw (ne_eqb x y (λ e. n (sym e))) (omega arith)
 
 -- ---- the places written
 pub record Placing (f : ℕ → ℕ) (held s₀ s : List ℕ) (i : ℕ) : Type 0 where
@@ -56,8 +50,10 @@ module _ {f : ℕ → ℕ} {held s₀ s : List ℕ} {i : ℕ} (w : Placing f hel
         laying = laying_more w.laying x (omega (arith, w.fits)) (map_more f held i 0 h ∙ ap (λ y. y ∷ map f (drop (i + 1) held)) (sym e));
       }
 
-  pub placing_end : length held ≤ i → Laid (map f held) s₀ s i
-  placing_end h = laying_end w.laying (ap (map f) (drop_of_length-le held h))
+  pub placing_end : length held ≤ i → Laid (map f held) s₀ s (length held)
+  placing_end h =
+      let n : i ≡ length held = omega (arith, w.within) in
+      subst (Laid (map f held) s₀ s) n (laying_end w.laying (ap (map f) (drop_of_length-le held h)))
 
 -- ---- the last held time at or below t
 pairs-length : (hs ps : List ℕ) → length (pairs hs ps) ≡ min (length hs) (length ps)

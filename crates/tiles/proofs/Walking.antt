@@ -4,7 +4,6 @@
 -- tiles-kept: the tiles of held times are the first one's, if it is kept, and the others'
 use Prim.Native.Nat.{ℕ, ◌+◌, ◌*◌, ◌-◌, ◌≤◌, ◌<◌}
 use native.Mathlib.Omega.{arith}
-use native.Mathlib.Nat.{sub-zero}
 use mathlib.Core.Bool.{true, false}
 use mathlib.Core.List.{List, [], ◌∷◌, ◌++◌, append_assoc, append-nil, map-append}
 use mathlib.Core.Path.{◌≡◌, refl, sym, ◌∙◌, ap, subst}
@@ -105,9 +104,6 @@ module _ {lower upper held out₀ out times₀ times low₀ low up₀ up : List 
   later : take (length held - (i + 1)) (drop (i + 1) held) ≡ drop (i + 1) held
   later = take_all (length held - (i + 1)) (drop (i + 1) held) (rw (length-drop (i + 1) held) (omega arith))
 
-  pub cut_room : length (take (length held - (i + 1)) (drop (i + 1) held)) + length upper < length up
-  cut_room = rw (later, length-drop (i + 1) held) (omega (arith, w.roomy.few_held, w.roomy.few_upper, w.roomy.room_up))
-
   module _ {up' : List ℕ} {next : ℕ} (f : Front (all_inserted (take (length held - (i + 1)) (drop (i + 1) held)) upper) up' next) where
     cut_is : take next up' ≡ all_inserted (drop (i + 1) held) upper
     cut_is = f.holds ∙ ap (λ l. all_inserted l upper) later
@@ -169,18 +165,15 @@ module _ {lower upper held out₀ out times₀ times low₀ low up₀ up : List 
 
   -- the same, of parts as they are lent
   module _ {up' : List ℕ} {next : ℕ} (f : Front (all_inserted (take (length held - (i + 1)) (drop (i + 1) held)) upper) up' next) where
-    pub kept_room : ((count * tile_size + tile_size ≤ length out) × (count < length times)) × ((length (take (last - 0) low) ≤ most_bound) × (length (take (next - 0) up') ≤ most_bound))
-    kept_room = rw (sub-zero last, sub-zero next) (kept_fits f)
+    pub kept_room : ((count * tile_size + tile_size ≤ length out) × (count < length times)) × ((length (take last low) ≤ most_bound) × (length (take next up') ≤ most_bound))
+    kept_room = kept_fits f
 
-    pub copy_room : 0 + length (take (next - 0) up') ≤ length low
-    copy_room = rw sub-zero (copy_fits f)
+    pub copy_room : 0 + length (take next up') ≤ length low
+    copy_room = copy_fits f
 
-    pub walking_more : {out' times' low' : List ℕ} {r last' : ℕ} → length up' ≡ length up → Kept (take (last - 0) low) (take (next - 0) up') (get_or held i 0) out out' times times' count r
-        → Laid (take 0 low ++ take (next - 0) up') low low' last' → Walking lower upper held out₀ out' times₀ times' low₀ low' up₀ up' last' r (i + 1)
-    walking_more {out'} {times'} {low'} {r} {last'} e k l =
-        let k' : Kept (take last low) (take next up') (get_or held i 0) out out' times times' count r = rw (sub-zero last, sub-zero next) at k in
-        let l' : Laid (take 0 low ++ take next up') low low' last' = rw sub-zero at l in
-        walks f e k' l'
+    pub walking_more : {out' times' low' : List ℕ} {r last' : ℕ} → length up' ≡ length up → Kept (take last low) (take next up') (get_or held i 0) out out' times times' count r
+        → Laid (take 0 low ++ take next up') low low' last' → Walking lower upper held out₀ out' times₀ times' low₀ low' up₀ up' last' r (i + 1)
+    walking_more e k l = walks f e k l
 
 pub walking_end : {lower upper held out₀ out times₀ times low₀ low up₀ up : List ℕ} {last count i : ℕ} → Walking lower upper held out₀ out times₀ times low₀ low up₀ up last count i
     → length held ≤ i → Tiled (tiles lower upper held) out₀ out times₀ times count

@@ -1,21 +1,23 @@
 -- Numbers written from a place on.
 --
 -- laid-at: one number. laid_then: one list after another
--- Writing s₀ s at k i xs: a loop has written the first i of xs from `at` on, up to k. writing_start, writing_more, writing_end: the loop keeps that
+-- laid_part: a list that was written over a part of a slice
 -- laid_room: room for what follows
--- zeros_length, zeros_at: of a list of zeros. bound-length, tile-length: how many numbers a bound and a tile have
--- bound-first, bound-second, bound_written: a bound's length, times and zeros, written one after the other. tile-first, tile-second, tile_written: the same of a tile
-use Prim.Native.Nat.{ℕ, zero, suc, ◌+◌, ◌-◌, ◌≤◌, ◌<◌}
+-- zeros_length: of a list of zeros. bound-length, tile-length: how many numbers a bound and a tile have
+-- bound_written: a bound's length, times and zeros, written one after the other. tile-first, tile-second, tile_written: the same of a tile
+use Prim.Native.Nat.{ℕ, zero, suc, ◌+◌, ◌-◌, ◌≤◌}
 use native.Mathlib.Omega.{arith}
 use mathlib.Core.List.{List, [], ◌∷◌, ◌++◌, append_assoc}
 use mathlib.Core.Path.{◌≡◌, refl, sym, ◌∙◌, ap, subst}
-use lib.ListN.{length, take, drop, get_or, set, replicate, length-append, length-set, drop_of_length-le}
+use lib.ListN.{length, take, drop, set, replicate, length-append}
 use lib.Seq.{length-take-le}
 use Rattle.grid.specs.Lists.{padded}
-use Rattle.grid.proofs.Loops.{drop_more}
 use Rattle.rules.specs.Memory.{most_bound, tile_numbers}
 use Rattle.grid.specs.Slices.{Laid}
-use Rattle.grid.proofs.Slices.{Laying, laying_more, laying_end, laid-length, laid_front, laid-twice}
+use Rattle.grid.proofs.Slices.{Laying, laying_more, laying_end, laid_fits, laid-length, laid_front, laid-twice}
+use borrow.Rule.Slice.PartMut.{put_mid}
+use Rattle.std.proofs.lemmas.Slice.{put_mid-paste}
+use Rattle.std.proofs.lemmas.List.Edits.{paste_all}
 use Rattle.tiles.specs.Described.{bound}
 
 module _ {A : Type 0} where
@@ -40,39 +42,19 @@ module _ {A : Type 0} where
       let l : length s₁ ≡ length s = ap length a.holds ∙ laid-length (take at s ++ xs) s in
       omega (arith, a.counted)
 
--- ---- the loops
-pub record Writing (s₀ s : List ℕ) (at k i : ℕ) (xs : List ℕ) : Type 0 where
-  pub moved : k ≡ at + i
-  pub within : i ≤ length xs
-  pub fits : at + length xs ≤ length s
-  pub laying : Laying s₀ s k (drop i xs) (take at s₀ ++ xs)
-
-pub writing_start : (s : List ℕ) (at : ℕ) (xs : List ℕ) → at + length xs ≤ length s → Writing s s at at 0 xs
-writing_start s at xs h = record { moved = omega arith; within = omega arith; fits = h; laying = laying_at s at xs (omega arith) }
-
-module _ {s₀ s : List ℕ} {at k i : ℕ} {xs : List ℕ} (w : Writing s₀ s at k i xs) where
-  pub writing_more : (x : ℕ) → i < length xs → x ≡ get_or xs i 0 → Writing s₀ (set s k x) at (k + 1) (i + 1) xs
-  writing_more x h e =
-      let m : k ≡ at + i = w.moved in
-      let f : at + length xs ≤ length s = w.fits in
-      record {
-        moved = omega arith;
-        within = omega arith;
-        fits = simp length-set f;
-        laying = laying_more w.laying x (omega arith) (drop_more xs i 0 h ∙ ap (λ y. y ∷ drop (i + 1) xs) (sym e));
-      }
-
-  pub writing_end : length xs ≤ i → Laid (take at s₀ ++ xs) s₀ s k
-  writing_end h = laying_end w.laying (drop_of_length-le xs h)
+-- ---- a part of a slice written as a whole
+pub laid_part : {A : Type 0} (s : List A) (at : ℕ) (xs : List A) {ys : List A} {n : ℕ} → at + n ≤ length s → n ≡ length xs → ys ≡ xs → Laid (take at s ++ xs) s (put_mid at (at + n - at) s ys) (at + n)
+laid_part s at xs {ys} {n} h e p =
+    let k : n ≡ at + n - at = omega arith in
+    let l : length (take at s ++ xs) ≡ at + n = length-append (take at s) xs ∙ rw (length-take-le at s (omega arith), e) in
+    record {
+      counted = sym l;
+      holds = put_mid-paste at (at + n - at) s ys xs n p k e ∙ paste_all s at xs n e ∙ sym (append_assoc (take at s) xs (drop (at + n) s)) ∙ sym (rw (laid_fits (take at s ++ xs) s (omega arith), l));
+    }
 
 pub zeros_length : (n : ℕ) → length {A = ℕ} (replicate n 0) ≡ n
 zeros_length zero = refl
 zeros_length (suc n) = ap suc (zeros_length n)
-
-pub zeros_at : (n i : ℕ) → ◌≡◌ {A = ℕ} 0 (get_or (replicate n 0) i 0)
-zeros_at zero i = refl
-zeros_at (suc n) zero = refl
-zeros_at (suc n) (suc i) = zeros_at n i
 
 -- ---- a bound, a tile
 pub bound-length : (f : List ℕ) → length f ≤ most_bound → length (bound f) ≡ 32
@@ -85,13 +67,7 @@ module _ (s : List ℕ) (at : ℕ) (f : List ℕ) (h : at + 32 ≤ length s) (b 
   bound_room : k₁ + 31 ≤ length s₁
   bound_room = laid_room at (length f ∷ []) 31 h w₁
 
-  pub bound-first : k₁ + length f ≤ length s₁
-  bound-first = omega (arith, bound_room)
-
   module _ {s₂ : List ℕ} {k₂ : ℕ} (w₂ : Laid (take k₁ s₁ ++ f) s₁ s₂ k₂) where
-    pub bound-second : k₂ + (most_bound - length f) ≤ length s₂
-    bound-second = laid_room k₁ f (most_bound - length f) (omega (arith, bound_room)) w₂
-
     pub bound_written : {s₃ : List ℕ} {r : ℕ} → Laid (take k₂ s₂ ++ replicate (most_bound - length f) 0) s₂ s₃ r → Laid (take at s ++ bound f) s s₃ r
     unfolding bound
     bound_written w₃ =

@@ -10,22 +10,15 @@ use times::MOST_TIMES;
 pub const TILES_SIZE: usize = 1040;
 
 // Whether there are at most 16 times each, and room for 16 tiles and 16 places.
+#[tactic(auto, unfolding(crate::specs::Described::fitting))]
 fn is_fitting(lower: usize, upper: usize, held: usize, out: usize, places: usize) -> bool
     ensures { result ≡ fitting lower upper held out places }
 {
-    if lower > MOST_TIMES {
-        return false;
-    }
-    if upper > MOST_TIMES {
-        return false;
-    }
-    if held > MOST_TIMES {
-        return false;
-    }
-    if out < TILES_SIZE {
-        return false;
-    }
-    places >= MOST_TIMES
+    lower <= MOST_TIMES
+        && upper <= MOST_TIMES
+        && held <= MOST_TIMES
+        && out >= TILES_SIZE
+        && places >= MOST_TIMES
 }
 
 // Writes the tiles, 65 numbers each, and the place of each held time's tile; says how many tiles there are. Frontiers have at most 16 times;
@@ -46,12 +39,13 @@ pub fn tile_descriptions(
         out.len(),
         places.len(),
     ) {
+        // The answer stays a number: the caller's contract speaks of a count, and what is refused has no tile.
         return 0;
     }
-    let mut times = [0u64; 16];
+    let mut times = [0u64; MOST_TIMES];
     let mut low = [0u64; 32];
     let mut up = [0u64; 32];
     let count = tile::write_tiles(lower, upper, held, out, &mut times, &mut low, &mut up);
-    place::write_places(held, &times[0..count], places);
+    place::write_places(held, &times[..count], places);
     count
 }

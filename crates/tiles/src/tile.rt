@@ -21,12 +21,13 @@ fn write_kept(
     requires { ((count * tile_size + tile_size ≤ length out.old) × (count < length times.old)) × ((length lower.now ≤ most_bound) × (length upper.now ≤ most_bound)) }
     ensures { Kept lower.now upper.now h out.old out.new times.old times.new count result }
 {
-    if cut::is_same(upper, lower) {
-        return count;
+    if upper == lower {
+        count
+    } else {
+        write::write_tile(out, count * TILE_SIZE, lower, upper, h);
+        times[count] = h;
+        count + 1
     }
-    write::write_tile(out, count * TILE_SIZE, lower, upper, h);
-    times[count] = h;
-    count + 1
 }
 
 // Writes all tiles, and their held times. low holds the last cut, and up the next one.
@@ -44,12 +45,10 @@ pub fn write_tiles(
 {
     let mut last = write::write_all(low, 0, lower);
     let mut count = 0;
-    let mut i = 0;
-    while i < held.len() {
-        let next = cut::cut(upper, &held[i + 1..held.len()], up);
-        count = write_kept(out, times, count, &low[0..last], &up[0..next], held[i]);
-        last = write::write_all(low, 0, &up[0..next]);
-        i += 1;
+    for (i, h) in held.iter().enumerate() {
+        let next = cut::cut(upper, &held[i + 1..], up);
+        count = write_kept(out, times, count, &low[..last], &up[..next], *h);
+        last = write::write_all(low, 0, &up[..next]);
     }
     count
 }

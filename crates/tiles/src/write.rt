@@ -11,28 +11,16 @@ pub fn write_all(out: &mut [u64], at: usize, xs: &[u64]) -> usize
     requires { at + length xs.now ≤ length out.old }
     ensures { Laid (take at out.old ++ xs.now) out.old out.new result }
 {
-    let mut k = at;
-    let mut i = 0;
-    while i < xs.len() {
-        out[k] = xs[i];
-        k += 1;
-        i += 1;
-    }
-    k
+    out[at..at + xs.len()].copy_from_slice(xs);
+    at + xs.len()
 }
 
 fn write_zeros(out: &mut [u64], at: usize, n: usize) -> usize
     requires { at + n ≤ length out.old }
     ensures { Laid (take at out.old ++ replicate n 0) out.old out.new result }
 {
-    let mut k = at;
-    let mut i = 0;
-    while i < n {
-        out[k] = 0;
-        k += 1;
-        i += 1;
-    }
-    k
+    out[at..at + n].fill(0);
+    at + n
 }
 
 fn write_one(out: &mut [u64], at: usize, x: u64) -> usize

@@ -23,7 +23,7 @@ use Rattle.grid.proofs.Times.{lo_lt}
 use Rattle.grid.specs.Slices.{laid}
 use Rattle.times.specs.Fitted.{fitted}
 use Rattle.times.specs.Frontiers.{under, better, First}
-use Rattle.times.specs.declared.minimal.Fitted.TheVariants.{Count, Over}
+use Rattle.std.specs.Prelude.{Some, None}
 use Rattle.grid.proofs.Loops.{any_at}
 use Rattle.grid.proofs.Lists.{keep_none, keep_each}
 use Rattle.grid.proofs.Slices.{Laying, laying_start, laying_more, laying_end, laying_over}
@@ -98,13 +98,13 @@ module _ {ts s₀ : List ℕ} {bound : ℕ} {s : List ℕ} {k i : ℕ} (w : Find
   pub finding_more : {b i' : ℕ} → i < length ts → (k ≡ length s → ⊥) → b ≡ lo (get_or ts i 0) → First ts b i' → Finding ts s₀ b (set s k (get_or ts i 0)) (k + 1) i'
   finding_more h n e f = record { first = f; laying = laying_more w.laying (get_or ts i 0) (omega (arith, w.laying.within, n)) (rw e (w.first.some h)) }
 
-  pub finding_end : length ts ≤ i → (Count k ≡ fitted (length (minimal ts)) (length s₀)) × (s ≡ laid (minimal ts) s₀)
+  pub finding_end : length ts ≤ i → (Some k ≡ fitted (length (minimal ts)) (length s₀)) × (s ≡ laid (minimal ts) s₀)
   unfolding fitted
   finding_end h =
       let l = laying_end w.laying (w.first.none h) in
       (rw (← l.counted, le-leb k (length s₀) (omega (arith, w.laying.within, w.laying.same))), l.holds)
 
-  pub finding_over : i < length ts → k ≡ length s → (Over ≡ fitted (length (minimal ts)) (length s₀)) × (s ≡ laid (minimal ts) s₀)
+  pub finding_over : i < length ts → k ≡ length s → (None ≡ fitted (length (minimal ts)) (length s₀)) × (s ≡ laid (minimal ts) s₀)
   unfolding fitted
   finding_over h e =
       let rest : List ℕ = minimal (under (lo (get_or ts i 0)) ts) in

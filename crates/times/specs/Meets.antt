@@ -1,11 +1,15 @@
 -- The meet that may be absent, as the rules' option.
 --
+-- Meet: a time, or none
 -- optional m: nothing if m is absent, else the time that is present
-use Rattle.std.specs.Prelude.{ℕ}
-use Rattle.std.proofs.Math.Option.{Option, none, some}
-use Rattle.times.specs.declared.optional.Meet.{Meet}
-use Rattle.times.specs.declared.optional.Meet.TheVariants.{Absent, Present}
+use Rattle.std.specs.Prelude.{ℕ, Option, Some, None}
+use Rattle.std.proofs.Math.Option.{none, some}
+use Rattle.std.proofs.Math.Option as Rules
+use Rattle.times.specs.declared.time.PackedTime.{PackedTime}
 
-abbrev pub optional : Meet → Option ℕ
-optional Absent = none
-optional (Present t) = some t.0
+abbrev pub Meet : Type 0
+Meet = Option PackedTime
+
+abbrev pub optional : Meet → Rules.Option ℕ
+optional None = none
+optional (Some t) = some t.0

@@ -11,41 +11,25 @@ use crate::time::PackedTime;
 pub const MOST_TIMES: usize = 16;
 
 // Whether t is beyond the frontier: some element is at or below it.
+#[tactic(auto, unfolding(grid::specs::Frontiers::beyond))]
 pub fn is_beyond(f: &[u64], t: PackedTime) -> bool
     ensures { result ≡ beyond f.now t.0 }
 {
-    let mut i = 0;
-    while i < f.len() {
-        if PackedTime(f[i]).below(t) {
-            return true;
-        }
-        i += 1;
-    }
-    false
+    f.iter().any(|u| PackedTime(*u).below(t))
 }
 
 // Whether s is earlier than t and the two are incomparable.
 fn apart(s: PackedTime, t: PackedTime) -> bool
     ensures { result ≡ (ltb s.0 t.0 && not (comparable s.0 t.0)) }
 {
-    if s.before(t) {
-        return !s.comparable(t);
-    }
-    false
+    s < t && !s.comparable(t)
 }
 
-// Whether t is earlier than, and incomparable to, every element from a place on.
-fn apart_from(t: PackedTime, f: &[u64], from: usize) -> bool
-    ensures { result ≡ every (λ u. ltb t.0 u && not (comparable t.0 u)) (drop from f.now) }
+// Whether t is earlier than, and incomparable to, every one of the times.
+fn apart_from(t: PackedTime, later: &[u64]) -> bool
+    ensures { result ≡ every (λ u. ltb t.0 u && not (comparable t.0 u)) later.now }
 {
-    let mut j = from;
-    while j < f.len() {
-        if !apart(t, PackedTime(f[j])) {
-            return false;
-        }
-        j += 1;
-    }
-    true
+    later.iter().all(|u| apart(t, PackedTime(*u)))
 }
 
 // Whether the slice is a frontier.
@@ -55,12 +39,11 @@ pub fn is_frontier(f: &[u64]) -> bool
     if f.len() > MOST_TIMES {
         return false;
     }
-    let mut i = 0;
-    while i < f.len() {
-        if !apart_from(PackedTime(f[i]), f, i + 1) {
+    for i in 0..f.len() {
+        let t = PackedTime(f[i]);
+        if !apart_from(t, &f[i + 1..]) {
             return false;
         }
-        i += 1;
     }
     true
 }

@@ -15,15 +15,11 @@ fn remove_dominated(f: &mut [u64], count: usize, t: PackedTime) -> usize
     ensures { (result ≤ count) × Laid (keep (λ u. not (below t.0 u)) (take count f.old)) f.old f.new result }
 {
     let mut k = 0;
-    let mut i = 0;
-    while i < count {
+    for i in 0..count {
         let u = f[i];
-        if t.below(PackedTime(u)) {
-            i += 1;
-        } else {
+        if !t.below(PackedTime(u)) {
             f[k] = u;
             k += 1;
-            i += 1;
         }
     }
     k
@@ -34,14 +30,12 @@ fn place_of(t: PackedTime, f: &[u64], count: usize) -> usize
     requires { (count ≤ length f.now) × (beyond (take count f.now) t.0 ≡ false) }
     ensures { (result ≤ count) × (put t.0 (take count f.now) ≡ take result f.now ++ t.0 ∷ drop result (take count f.now)) }
 {
-    let mut i = 0;
-    while i < count {
-        if t.before(PackedTime(f[i])) {
+    for i in 0..count {
+        if t < PackedTime(f[i]) {
             return i;
         }
-        i += 1;
     }
-    i
+    count
 }
 
 // Moves the times from a place on up by one, and writes t there.
@@ -50,12 +44,10 @@ fn put_at(f: &mut [u64], count: usize, place: usize, t: PackedTime) -> usize
     ensures { Laid (take place f.old ++ t.0 ∷ drop place (take count f.old)) f.old f.new result }
 {
     let mut moved = t.0;
-    let mut i = place;
-    while i < count {
+    for i in place..count {
         let u = f[i];
         f[i] = moved;
         moved = u;
-        i += 1;
     }
     f[count] = moved;
     count + 1

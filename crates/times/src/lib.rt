@@ -9,6 +9,6 @@ mod time;
 
 pub use frontier::{MOST_TIMES, fresh_frontier, is_beyond, is_frontier};
 pub use insert::insert_time;
-pub use minimal::{Fitted, minimal_times};
-pub use optional::{Meet, joined, meet_of, meet_onto, meets};
+pub use minimal::minimal_times;
+pub use optional::{joined, meet_of, meet_onto, meets};
 pub use time::{KeyHash, PackedTime, ValueId};

@@ -7,26 +7,13 @@ ghost use Rattle.times.specs.Frontiers.{better, First};
 
 use crate::time::{PackedTime, SPAN};
 
-// How many times there are, or that there are more than there is room for.
-#[derive(Clone, Copy)]
-pub enum Fitted {
-    Count(usize),
-    Over,
-}
-
 // Whether the time at i is under the bound, and earlier than the best so far if there is one.
 fn is_better(ts: &[u64], bound: u64, best: usize, i: usize) -> bool
     requires { i < length ts.now }
     ensures { result ≡ better ts.now bound best i }
 {
     let t = PackedTime(ts[i]);
-    if (t.lo() as u64) < bound {
-        if ts.len() <= best {
-            return true;
-        }
-        return t.before(PackedTime(ts[best]));
-    }
-    false
+    (t.lo() as u64) < bound && (ts.len() <= best || t < PackedTime(ts[best]))
 }
 
 // Where the first of the minimal times under the bound stands: the earliest time under the bound.
@@ -34,29 +21,27 @@ fn first_minimal(ts: &[u64], bound: u64) -> usize
     ensures { First ts.now bound result }
 {
     let mut best = ts.len();
-    let mut i = 0;
-    while i < ts.len() {
+    for i in 0..ts.len() {
         if is_better(ts, bound, best, i) {
             best = i;
-            i += 1;
-        } else {
-            i += 1;
         }
     }
     best
 }
 
-// Writes the minimal times of a list, as many as there is room for. The rest of the slice stays as it was.
+// Writes the minimal times of a list, as many as there is room for, and says how many there are, or None where there are more than that. The rest of the
+// slice stays as it was.
 // The second parts of a frontier descend, so the next minimal time is the earliest under the second part of the last.
-pub fn minimal_times(ts: &[u64], out: &mut [u64]) -> Fitted
+pub fn minimal_times(ts: &[u64], out: &mut [u64]) -> Option<usize>
     ensures { (result ≡ fitted (length (minimal ts.now)) (length out.old)) × (out.new ≡ laid (minimal ts.now) out.old) }
 {
     let mut bound = SPAN;
     let mut k = 0;
     let mut i = first_minimal(ts, bound);
+    // No `for`: each search says where the next one stands.
     while i < ts.len() {
         if k == out.len() {
-            return Fitted::Over;
+            return None;
         }
         let t = PackedTime(ts[i]);
         out[k] = t.0;
@@ -64,5 +49,5 @@ pub fn minimal_times(ts: &[u64], out: &mut [u64]) -> Fitted
         bound = t.lo() as u64;
         i = first_minimal(ts, bound);
     }
-    Fitted::Count(k)
+    Some(k)
 }

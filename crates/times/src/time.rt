@@ -1,32 +1,20 @@
 // Key hash, value id and time, each of a type of its own, so that they cannot be swapped.
-ghost use Rattle.std.specs.Prelude.{◌≡◌, max, min, ltb};
+ghost use Rattle.std.specs.Prelude.{◌≡◌, max, min};
 ghost use Rattle.grid.specs.Times.{hi, lo, at, join, meet, below};
 ghost use Rattle.grid.specs.Frontiers.{comparable};
 
 // How many numbers a part can be.
 pub const SPAN: u64 = 4294967296;
 
-#[derive(Clone, Copy)]
+#[derive(Clone, Copy, PartialEq, Eq, PartialOrd, Ord)]
 pub struct KeyHash(pub u64);
 
-#[derive(Clone, Copy)]
+#[derive(Clone, Copy, PartialEq, Eq, PartialOrd, Ord)]
 pub struct ValueId(pub u64);
 
-// A pair of 32-bit numbers, the first in the upper half.
-#[derive(Clone, Copy)]
+// A pair of 32-bit numbers, the first in the upper half. Ascending order is that of the numbers.
+#[derive(Clone, Copy, PartialEq, Eq, PartialOrd, Ord)]
 pub struct PackedTime(pub u64);
-
-fn larger(x: u32, y: u32) -> u32
-    ensures { result ≡ max x y }
-{
-    if x < y { y } else { x }
-}
-
-fn smaller(x: u32, y: u32) -> u32
-    ensures { result ≡ min x y }
-{
-    if x < y { x } else { y }
-}
 
 impl PackedTime {
     pub const LEAST: PackedTime = PackedTime(0);
@@ -52,41 +40,25 @@ impl PackedTime {
     pub fn join(self, other: PackedTime) -> PackedTime
         ensures { result.0 ≡ join self.0 other.0 }
     {
-        PackedTime::new(larger(self.hi(), other.hi()), larger(self.lo(), other.lo()))
+        PackedTime::new(self.hi().max(other.hi()), self.lo().max(other.lo()))
     }
 
     pub fn meet(self, other: PackedTime) -> PackedTime
         ensures { result.0 ≡ meet self.0 other.0 }
     {
-        PackedTime::new(
-            smaller(self.hi(), other.hi()),
-            smaller(self.lo(), other.lo()),
-        )
+        PackedTime::new(self.hi().min(other.hi()), self.lo().min(other.lo()))
     }
 
     // At or below, in both parts.
     pub fn below(self, other: PackedTime) -> bool
         ensures { result ≡ below self.0 other.0 }
     {
-        if self.hi() <= other.hi() {
-            return self.lo() <= other.lo();
-        }
-        false
+        self.hi() <= other.hi() && self.lo() <= other.lo()
     }
 
     pub fn comparable(self, other: PackedTime) -> bool
         ensures { result ≡ comparable self.0 other.0 }
     {
-        if self.below(other) {
-            return true;
-        }
-        other.below(self)
-    }
-
-    // Strictly earlier, in ascending order.
-    pub fn before(self, other: PackedTime) -> bool
-        ensures { result ≡ ltb self.0 other.0 }
-    {
-        self.0 < other.0
+        self.below(other) || other.below(self)
     }
 }

@@ -111,7 +111,7 @@ module _ {most : ℕ} {keys seeds uv ut : List ℕ} {ud : List ℤ} {output res 
     waiting_room = omega (arith, a);
     tracked_room = omega (arith, l.long_tracked);
     pended_room = omega (arith, b);
-    work_room_lem = l.room_wv;
+    work_room = l.room_wv;
     for_tracked = l.for_tracked;
     places_room = omega (arith, l.long_ov);
     wvalues_room = omega (arith, l.long_iv);

@@ -1,7 +1,7 @@
 // Answers the requests NAME.req whose names are the arguments, and holds each answer to NAME.ans, whole.
 #![tactic(auto)]
 
-ghost use Rattle.std.specs.Prelude.{◌≤◌, length};
+ghost use Rattle.std.specs.Prelude.{◌≤◌, IfSome, length};
 ghost use Rattle.std.specs.Io.{ReadsAtMost};
 ghost use Rattle.io.specs.Counts.{IsPrefixLen};
 ghost use Rattle.form.proofs.Room.{most_text};
@@ -11,15 +11,6 @@ use std::env::FillError;
 use std::fs::File;
 use std::io;
 use std::rt::{Env, Files};
-
-fn clipped(n: usize, s: &[u8]) -> usize
-    ensures { IsPrefixLen result s.now }
-{
-    if n <= s.len() {
-        return n;
-    }
-    s.len()
-}
 
 // Opens the file that the bytes of a path name, and reads it.
 fn read_file(rt: &impl Files, path: &[u8], out: &mut [u8]) -> io::Result<usize>
@@ -49,10 +40,7 @@ fn read(rt: &(impl Files + Eprint), path: &[u8], out: &mut [u8]) -> usize
 fn argument(rt: &impl Env, i: usize, name: &mut [u8]) -> usize
     ensures { IsPrefixLen result name.new }
 {
-    match rt.arg(i, name) {
-        Ok(n) => n,
-        Err(_) => 0,
-    }
+    rt.arg(i, name).unwrap_or(0)
 }
 
 // The bytes of the file that the i-th argument and the ending name, at the front of out.
@@ -62,8 +50,8 @@ fn load(rt: &(impl Files + Env + Eprint), i: usize, ending: &[u8], out: &mut [u8
     let mut path = [0u8; 256];
     let n = argument(rt, i, &mut path);
     let m = print::put_word(&mut path, n, ending);
-    let k = clipped(m, &path);
-    read(rt, &path[..k], out)
+    let end = m.min(path.len());
+    read(rt, &path[..end], out)
 }
 
 // In lent memory: whether the answer to the request that the i-th argument names is the one beside it.
@@ -90,15 +78,11 @@ fn agrees(rt: &(impl Files + Env + Eprint), i: usize) -> bool {
     is_answered(rt, i, &mut request, &mut wanted, &mut text)
 }
 
-// The first argument from 1 on whose answer differs; count, or 1, if none does.
-fn first_difference(rt: &(impl Files + Env + Eprint), count: usize) -> usize
-    ensures { 1 ≤ result }
+// The first argument from 1 on whose answer differs.
+fn first_difference(rt: &(impl Files + Env + Eprint), count: usize) -> Option<usize>
+    ensures { IfSome result (λ i. 1 ≤ i) }
 {
-    let mut i: usize = 1;
-    while i < count && agrees(rt, i) {
-        i += 1;
-    }
-    i
+    (1..count).find(|i| !agrees(rt, *i))
 }
 
 // How many arguments there are, the program's name among them.
@@ -113,10 +97,12 @@ fn argument_count(rt: &impl Env) -> usize {
     usize::MAX
 }
 
-fn tell_agreed(rt: &impl Print, n: u64) -> io::Result<()> {
+// That n answers agree.
+fn tell_agreed(rt: &impl Print, n: usize) -> io::Result<()> {
     println!(rt; "{n} agree")
 }
 
+// Which argument's answer differs.
 fn tell_difference(rt: &(impl Env + Print), i: usize) -> io::Result<()> {
     let mut name = [0u8; 256];
     let n = argument(rt, i, &mut name);
@@ -127,9 +113,8 @@ fn tell_difference(rt: &(impl Env + Print), i: usize) -> io::Result<()> {
 
 fn main(rt: HostRuntime) -> io::Result<()> {
     let count = argument_count(&rt);
-    let i = first_difference(&rt, count);
-    if i < count {
-        return tell_difference(&rt, i);
+    match first_difference(&rt, count) {
+        Some(i) => tell_difference(&rt, i),
+        None => tell_agreed(&rt, count.saturating_sub(1)),
     }
-    tell_agreed(&rt, (i - 1) as u64)
 }

@@ -47,7 +47,7 @@ pub fn seed_count<'s, 'p, 't, 'v, 'd, 'o>(v: KeyView<'s, 'p, 't, 'v, 'd, 'o>) ->
     v.seedtimes.len()
 }
 
-// Finds the moments and the pended times of the key that the view shows, in memory that is lent for all keys.
+// Finds the moments and the pended times of the key that the view shows, in memory that is lent for all keys; none if a limit was passed.
 pub fn discover_through<'s, 'p, 't, 'v, 'd, 'o>(
     upper: &[u64],
     v: KeyView<'s, 'p, 't, 'v, 'd, 'o>,
@@ -65,7 +65,7 @@ pub fn discover_through<'s, 'p, 't, 'v, 'd, 'o>(
     places: &mut [u64],
     wvalues: &mut [u64],
     wdiffs: &mut [i64],
-) -> Found
+) -> Option<Found>
     requires { Lending v.seedtimes.now v.pending.now v.intimes.now v.invalues.now v.indiffs.now v.outtimes.now seeds.old times.old values.old diffs.old output.old meets.old waiting.old tracked.old moments.old pended.old work.old places.old wvalues.old wdiffs.old }
     ensures { Finds (discover upper.now v.entry.seedtimes.now v.entry.pending.now (edits v.entry.intimes.now v.entry.invalues.now v.entry.indiffs.now) v.entry.outtimes.now) moments.new pended.new result }
 {
@@ -94,7 +94,7 @@ pub fn discover_through<'s, 'p, 't, 'v, 'd, 'o>(
     )
 }
 
-// Finds the moments and the pended times of one key through its view. Who has the parts as plain slices calls this, and holds no view.
+// Finds the moments and the pended times of one key through its view; none if a limit was passed. Who has the parts as plain slices calls this, and holds no view.
 pub fn discover_view(
     upper: &[u64],
     seedtimes: &[u64],
@@ -117,7 +117,7 @@ pub fn discover_view(
     places: &mut [u64],
     wvalues: &mut [u64],
     wdiffs: &mut [i64],
-) -> Found
+) -> Option<Found>
     requires { Lending seedtimes.now pending.now intimes.now invalues.now indiffs.now outtimes.now seeds.old times.old values.old diffs.old output.old meets.old waiting.old tracked.old moments.old pended.old work.old places.old wvalues.old wdiffs.old }
     ensures { Finds (discover upper.now seedtimes.now pending.now (edits intimes.now invalues.now indiffs.now) outtimes.now) moments.new pended.new result }
 {

@@ -24,8 +24,10 @@ use Rattle.emissions.specs.Emissions.{over as laid_over, Cleared}
 use Rattle.wave.specs.Turns.{emitted_time, emitted_first, emitted_second, emitted_diff}
 use Rattle.emissions.specs.Heads.{most_emissions}
 use Rattle.wave.specs.Replays.{Replayed}
-use Rattle.wave.specs.Calls.{level, roomy, lent_well, status_before, Called}
-use Rattle.wave.specs.declared.call.Emitted.{Emitted}
+use Rattle.wave.specs.Calls.{level, roomy, lent_well, status_of, status_before, Called}
+use Rattle.wave.specs.declared.call.Refusal.{Refusal}
+use Rattle.wave.specs.declared.call.Refusal.TheVariants.{Short, Unfit, Over}
+use Rattle.std.specs.Prelude.{Result, Ok, Err}
 use Rattle.wave.proofs.Checking.{level-alike}
 
 -- ---- a column of results
@@ -78,7 +80,7 @@ module _ {as' bs : List Edit} (r : WaveRun as') (q : WaveRun bs) {times firsts s
       (w : Replayed (wave_of as' bs) times₀ firsts₀ seconds₀ diffs₀ times₁ firsts₁ seconds₁ diffs₁ count) where
     pub called_over : most_emissions < count → length times₁ ≡ length times → length firsts₁ ≡ length firsts → length seconds₁ ≡ length seconds → length diffs₁ ≡ length diffs
         → {times' firsts' seconds' : List ℕ} {diffs' : List ℤ} → Cleared times₁ firsts₁ seconds₁ diffs₁ times' firsts' seconds' diffs'
-        → Called (wave_call true as' bs) times firsts seconds diffs times' firsts' seconds' diffs' (record { status = 18; count = 0 })
+        → Called (wave_call true as' bs) times firsts seconds diffs times' firsts' seconds' diffs' (Err Over)
     unfolding wave_refused
     called_over h lt lf ls ld z =
         let o : WaveOutcome true as' bs (wave_refused 18) = over refl (r, q) (w.over h) in
@@ -92,7 +94,7 @@ module _ {as' bs : List Edit} (r : WaveRun as') (q : WaveRun bs) {times firsts s
         })
 
     pub called_done : count ≤ most_emissions → roomy times firsts seconds diffs ≡ true → Cleared times firsts seconds diffs times₀ firsts₀ seconds₀ diffs₀
-        → Called (wave_call true as' bs) times firsts seconds diffs times₁ firsts₁ seconds₁ diffs₁ (record { status = 0; count = count })
+        → Called (wave_call true as' bs) times firsts seconds diffs times₁ firsts₁ seconds₁ diffs₁ (Ok count)
     called_done h e z =
         let es = wave_of as' bs in
         let n : count ≡ length es = w.counted h in
@@ -108,13 +110,25 @@ module _ {as' bs : List Edit} (r : WaveRun as') (q : WaveRun bs) {times firsts s
         })
 
 -- ---- the status before any work
-untouched : (n : ℕ) → (leb 11 n && leb n 17) ≡ true → {s : ℕ} → s ≡ n → (times firsts seconds : List ℕ) (diffs : List ℤ) → Called (wave_refused n) times firsts seconds diffs times firsts seconds diffs (record { status = s; count = 0 })
+-- a refusal has one status, whatever was asked for
+refusal_is : (x : Refusal) → status_of {A = ℕ} (Err x) ≡ status_of {A = Unit {0}} (Err x)
+refusal_is Short = refl
+refusal_is Unfit = refl
+refusal_is Over = refl
+
+untouched : (n : ℕ) → (leb 11 n && leb n 17) ≡ true → (x : Refusal) → status_of {A = Unit {0}} (Err x) ≡ n → (times firsts seconds : List ℕ) (diffs : List ℤ) → Called (wave_refused n) times firsts seconds diffs times firsts seconds diffs (Err x)
 unfolding leaves wave_refused
-untouched n t e times firsts seconds diffs = record { status_is = e; count_is = refl; times_are = rw t; firsts_are = rw t; seconds_are = rw t; diffs_are = rw t }
+untouched n t x s times firsts seconds diffs = record { status_is = refusal_is x ∙ s; count_is = refl; times_are = rw t; firsts_are = rw t; seconds_are = rw t; diffs_are = rw t }
 
 unfit_runs : (as' bs : List Edit) → (good_wave_run as' && good_wave_run bs) ≡ false → ¬ (WaveRun as' × WaveRun bs)
 unfit_runs as' bs g r = clash (good_wave_run as' && good_wave_run bs) (and_i (good_wave_run as') (good_wave_run bs) ((good_run_lem as').1 r.0) ((good_run_lem bs).1 r.1)) g
 
+refused : (x : Refusal) → status_of {A = Unit {0}} (Err x) ≡ 0 → ⊥
+refused Short e = absurd (omega arith)
+refused Unfit e = absurd (omega arith)
+refused Over e = absurd (omega arith)
+
+-- what the checks say
 module _ (l : Bool) (as' bs : List Edit) {s : ℕ} (e : s ≡ status_before l as' bs) where
   status_short : l ≡ false → s ≡ 11
   unfolding status_before
@@ -128,13 +142,6 @@ module _ (l : Bool) (as' bs : List Edit) {s : ℕ} (e : s ≡ status_before l as
   unfolding status_before
   status_fit t g = rw (t, g) at e
 
-  pub called_refused : (s ≡ 0 → ⊥) → (times firsts seconds : List ℕ) (diffs : List ℤ) → Called (wave_call l as' bs) times firsts seconds diffs times firsts seconds diffs (record { status = s; count = 0 })
-  called_refused n times firsts seconds diffs =
-      by-test l
-      (λ t. by-test (good_wave_run as' && good_wave_run bs) (λ g. absurd (n (status_fit t g)))
-      (λ g. let o : WaveOutcome l as' bs (wave_refused 14) = unfit t (unfit_runs as' bs g) in rw (← wave-outcome_only o) (untouched 14 refl (status_unfit t g) times firsts seconds diffs)))
-      (λ t. let o : WaveOutcome l as' bs (wave_refused 11) = short t in rw (← wave-outcome_only o) (untouched 11 refl (status_short t) times firsts seconds diffs))
-
   accepted : s ≡ 0 → (l ≡ true) × (WaveRun as' × WaveRun bs)
   accepted z =
       by-test l
@@ -143,9 +150,17 @@ module _ (l : Bool) (as' bs : List Edit) {s : ℕ} (e : s ≡ status_before l as
       (λ g. let u : s ≡ 14 = status_unfit t g in absurd (omega arith)))
       (λ t. let u : s ≡ 11 = status_short t in absurd (omega arith))
 
-module _ (ts vs : List ℕ) (ds : List ℤ) (us ws : List ℕ) (es : List ℤ) (times firsts seconds : List ℕ) (diffs : List ℤ) {s : ℕ} (e : s ≡ status_before (lent_well ts vs ds us ws es times firsts seconds diffs) (edits ts vs ds) (edits us ws es)) (z : s ≡ 0) where
-  lent_well_lem : lent_well ts vs ds us ws es times firsts seconds diffs ≡ true
-  lent_well_lem = (accepted (lent_well ts vs ds us ws es times firsts seconds diffs) (edits ts vs ds) (edits us ws es) e z).0
+pub called_refused : (l : Bool) (as' bs : List Edit) (x : Refusal) → status_of {A = Unit {0}} (Err x) ≡ status_before l as' bs → (times firsts seconds : List ℕ) (diffs : List ℤ)
+    → Called (wave_call l as' bs) times firsts seconds diffs times firsts seconds diffs (Err x)
+called_refused l as' bs x e times firsts seconds diffs =
+    by-test l
+    (λ t. by-test (good_wave_run as' && good_wave_run bs) (λ g. absurd (refused x (status_fit l as' bs e t g)))
+    (λ g. let o : WaveOutcome l as' bs (wave_refused 14) = unfit t (unfit_runs as' bs g) in rw (← wave-outcome_only o) (untouched 14 refl x (status_unfit l as' bs e t g) times firsts seconds diffs)))
+    (λ t. let o : WaveOutcome l as' bs (wave_refused 11) = short t in rw (← wave-outcome_only o) (untouched 11 refl x (status_short l as' bs e t) times firsts seconds diffs))
+
+module _ (ts vs : List ℕ) (ds : List ℤ) (us ws : List ℕ) (es : List ℤ) (times firsts seconds : List ℕ) (diffs : List ℤ) (e : 0 ≡ status_before (lent_well ts vs ds us ws es times firsts seconds diffs) (edits ts vs ds) (edits us ws es)) where
+  lent-accepted : lent_well ts vs ds us ws es times firsts seconds diffs ≡ true
+  lent-accepted = (accepted (lent_well ts vs ds us ws es times firsts seconds diffs) (edits ts vs ds) (edits us ws es) e refl).0
 
   pub accepted-lent : (Alike ts vs ds × WaveRun (edits ts vs ds)) × ((Alike us ws es × WaveRun (edits us ws es)) × (roomy times firsts seconds diffs ≡ true))
   unfolding lent_well
@@ -153,11 +168,11 @@ module _ (ts vs : List ℕ) (ds : List ℤ) (us ws : List ℕ) (es : List ℤ) (
       let first = level ts vs ds in
       let second = level us ws es in
       let room = roomy times firsts seconds diffs in
-      let both : (first && second) ≡ true = and_l (first && second) room lent_well_lem in (
-        (level-alike ts vs ds (and_l first second both), (accepted (lent_well ts vs ds us ws es times firsts seconds diffs) (edits ts vs ds) (edits us ws es) e z).1.0),
-        ((level-alike us ws es (and_r first second both), (accepted (lent_well ts vs ds us ws es times firsts seconds diffs) (edits ts vs ds) (edits us ws es) e z).1.1), and_r (first && second) room lent_well_lem),
+      let both : (first && second) ≡ true = and_l (first && second) room lent-accepted in (
+        (level-alike ts vs ds (and_l first second both), (accepted (lent_well ts vs ds us ws es times firsts seconds diffs) (edits ts vs ds) (edits us ws es) e refl).1.0),
+        ((level-alike us ws es (and_r first second both), (accepted (lent_well ts vs ds us ws es times firsts seconds diffs) (edits ts vs ds) (edits us ws es) e refl).1.1), and_r (first && second) room lent-accepted),
       )
 
-  pub called_accepted : {times' firsts' seconds' : List ℕ} {diffs' : List ℤ} {r : Emitted} → Called (wave_call true (edits ts vs ds) (edits us ws es)) times firsts seconds diffs times' firsts' seconds' diffs' r
-      → Called (wave_call (lent_well ts vs ds us ws es times firsts seconds diffs) (edits ts vs ds) (edits us ws es)) times firsts seconds diffs times' firsts' seconds' diffs' r
-  called_accepted w = rw lent_well_lem w
+  pub called_accepted : {times' firsts' seconds' : List ℕ} {diffs' : List ℤ} {a : Result ℕ Refusal} → Called (wave_call true (edits ts vs ds) (edits us ws es)) times firsts seconds diffs times' firsts' seconds' diffs' a
+      → Called (wave_call (lent_well ts vs ds us ws es times firsts seconds diffs) (edits ts vs ds) (edits us ws es)) times firsts seconds diffs times' firsts' seconds' diffs' a
+  called_accepted w = rw lent-accepted w

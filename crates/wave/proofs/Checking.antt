@@ -1,41 +1,23 @@
 -- The checks of a call.
 --
--- small_negative, small_other: the test of a diff, by its sign. small_read: of a diff that was read into a local
--- run-over, run_small: the test of a side, from its columns
--- level-alike: what equal lengths mean
-use Prim.Native.Nat.{ℕ, ◌≤◌, ◌<◌}
+-- two_tests: the test of a side, from its columns
+-- level-alike, lent-alike: what equal lengths mean
+-- before_short, before_unfit, before_fit: the status before any work
+use Prim.Native.Nat.{ℕ}
 use mathlib.Core.Bool.{Bool, true, false, ◌&&◌}
 use mathlib.Core.List.{List, [], ◌∷◌, map}
-use mathlib.Core.Path.{◌≡◌, refl, ◌∙◌, ap}
-use borrow.Author.Tests.{eqb-true, le-leb, lt-leb}
+use mathlib.Core.Path.{◌≡◌, refl, ap}
+use borrow.Author.Tests.{eqb-true}
 use lib.Dec.{eqb, leb}
-use lib.IntN.{ℤ, pos, negsuc, nat_abs}
+use lib.IntN.{ℤ, nat_abs}
 use lib.ListN.{length}
-use lib.Signed.{lt_z, le_z}
-use mir.Syntax.{w64}
-use mir.Val.{to_z, of_z, SFits}
-use mir.Facts.{to_z-of_z}
 use Rattle.grid.specs.Lists.{every}
 use Rattle.grid.proofs.Tests.{and_l, and_r}
-use Rattle.grid.proofs.Signed.{size_negative, size_other}
 use Rattle.rules.specs.Histories.{Edit}
 use Rattle.rules.specs.Wave.{good_wave_run}
 use Rattle.edits.specs.Edits.{edits, Alike}
 use Rattle.edits.proofs.Edits.{diff_of, diffs-edits, length-edits}
-use Rattle.wave.specs.Calls.{level, small_diff}
-
--- ---- a diff
-module _ {d : ℤ} (fits : SFits w64 d) where
-  pub small_negative : lt_z (to_z w64 (of_z w64 d)) (pos 0) ≡ true → le_z (negsuc 1048575) (to_z w64 (of_z w64 d)) ≡ small_diff d
-  unfolding small_diff
-  small_negative = rw (to_z-of_z fits) (size_negative 1048575 d)
-
-  pub small_other : lt_z (to_z w64 (of_z w64 d)) (pos 0) ≡ false → le_z (to_z w64 (of_z w64 d)) (pos 1048576) ≡ small_diff d
-  unfolding small_diff
-  small_other = rw (to_z-of_z fits) (size_other 1048576 d)
-
-  pub small_read : {b : Bool} → b ≡ small_diff (to_z w64 (of_z w64 d)) → b ≡ small_diff d
-  small_read e = e ∙ ap small_diff (to_z-of_z fits)
+use Rattle.wave.specs.Calls.{level, roomy, lent_well, small_diff, status_before}
 
 -- ---- a side
 every_diffs : (es : List Edit) → every small_diff (map diff_of es) ≡ every (λ (e : Edit). leb (nat_abs e.1) 1048576) es
@@ -44,13 +26,10 @@ every_diffs [] = refl
 every_diffs (e ∷ es) = ap (λ b. leb (nat_abs e.1) 1048576 && b) (every_diffs es)
 
 module _ (ts vs : List ℕ) (ds : List ℤ) (a : Alike ts vs ds) where
-  pub run-over : 1024 < length ts → false ≡ good_wave_run (edits ts vs ds)
+  -- the two tests make one
+  pub two_tests : good_wave_run (edits ts vs ds) ≡ (leb (length ts) 1024 && every small_diff ds)
   unfolding good_wave_run
-  run-over h = rw (length-edits ts vs ds a, lt-leb (length ts) 1024 h)
-
-  pub run_small : {b : Bool} → length ts ≤ 1024 → b ≡ every small_diff ds → b ≡ good_wave_run (edits ts vs ds)
-  unfolding good_wave_run
-  run_small h e = rw (length-edits ts vs ds a, le-leb (length ts) 1024 h, ← every_diffs (edits ts vs ds), diffs-edits ts vs ds a) e
+  two_tests = rw (length-edits ts vs ds a, ← every_diffs (edits ts vs ds), diffs-edits ts vs ds a)
 
 pub level-alike : (ts vs : List ℕ) (ds : List ℤ) → level ts vs ds ≡ true → Alike ts vs ds
 unfolding level
@@ -59,3 +38,23 @@ level-alike ts vs ds e =
       values = eqb-true (length vs) (length ts) (and_l (eqb (length vs) (length ts)) (eqb (length ds) (length ts)) e);
       diffs = eqb-true (length ds) (length ts) (and_r (eqb (length vs) (length ts)) (eqb (length ds) (length ts)) e);
     }
+
+pub lent-alike : {ts vs : List ℕ} {ds : List ℤ} {us ws : List ℕ} {es : List ℤ} (times firsts seconds : List ℕ) (diffs : List ℤ) → lent_well ts vs ds us ws es times firsts seconds diffs ≡ true → Alike ts vs ds × Alike us ws es
+unfolding lent_well
+lent-alike {ts} {vs} {ds} {us} {ws} {es} times firsts seconds diffs e =
+    let both : (level ts vs ds && level us ws es) ≡ true = and_l (level ts vs ds && level us ws es) (roomy times firsts seconds diffs) e in
+    (level-alike ts vs ds (and_l (level ts vs ds) (level us ws es) both), level-alike us ws es (and_r (level ts vs ds) (level us ws es) both))
+
+-- ---- the status before any work
+module _ {l : Bool} (as' bs : List Edit) where
+  pub before_short : l ≡ false → 11 ≡ status_before l as' bs
+  unfolding status_before
+  before_short t = rw t
+
+  pub before_unfit : l ≡ true → (good_wave_run as' && good_wave_run bs) ≡ false → 14 ≡ status_before l as' bs
+  unfolding status_before
+  before_unfit t g = rw (t, g)
+
+  pub before_fit : l ≡ true → (good_wave_run as' && good_wave_run bs) ≡ true → 0 ≡ status_before l as' bs
+  unfolding status_before
+  before_fit t g = rw (t, g)

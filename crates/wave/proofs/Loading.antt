@@ -2,9 +2,9 @@
 --
 -- lent_load, lent-meets: what the load of a side asks. side_loaded: what it leaves
 -- side_part: the loaded part of the columns is a side. wave-loaded: the wave of two such parts is that of the two runs
-use Prim.Native.Nat.{ℕ, ◌+◌, ◌-◌, ◌≤◌}
+use Prim.Native.Nat.{ℕ, ◌+◌, ◌≤◌}
 use native.Mathlib.Omega.{arith}
-use native.Mathlib.Nat.{sub-zero, mul-le-mul_right}
+use native.Mathlib.Nat.{mul-le-mul_right}
 use mathlib.Core.List.{List}
 use mathlib.Core.Option.{none}
 use mathlib.Core.Path.{◌≡◌, sym, ◌∙◌, ap}
@@ -70,16 +70,16 @@ module _ {ft fv : List ℕ} {fd : List ℤ} (a : Alike ft fv fd) (r : WaveRun (e
         }
 
 module _ {es : List Edit} {ts vs : List ℕ} {ds : List ℤ} {ms : List ℕ} {n : ℕ} (l : SideLoaded es ts vs ds ms n) where
-  pub side_part : Side (take (n - 0) ts) (take (n - 0) vs) (take (n - 0) ds) ms fresh
-  side_part = let z : n - 0 ≡ n = sub-zero n in rw z l.side
+  pub side_part : Side (take n ts) (take n vs) (take n ds) ms fresh
+  side_part = l.side
 
-  part-loaded : edits (take (n - 0) ts) (take (n - 0) vs) (take (n - 0) ds) ≡ load_edits none es
-  part-loaded = let z : n - 0 ≡ n = sub-zero n in rw z l.loaded
+  part-loaded : edits (take n ts) (take n vs) (take n ds) ≡ load_edits none es
+  part-loaded = l.loaded
 
-  part_long : length (take (n - 0) ts) ≡ length (load_edits none es)
-  part_long = sym (length-edits (take (n - 0) ts) (take (n - 0) vs) (take (n - 0) ds) side_part.alike) ∙ ap length part-loaded
+  part_long : length (take n ts) ≡ length (load_edits none es)
+  part_long = sym (length-edits (take n ts) (take n vs) (take n ds) side_part.alike) ∙ ap length part-loaded
 
 pub wave-loaded : {as' bs : List Edit} {ts vs : List ℕ} {ds : List ℤ} {ms us ws : List ℕ} {es : List ℤ} {ns : List ℕ} {n m : ℕ} → SideLoaded as' ts vs ds ms n → SideLoaded bs us ws es ns m
-    → wave (length (take (n - 0) ts) + length (take (m - 0) us)) (loaded (edits (take (n - 0) ts) (take (n - 0) vs) (take (n - 0) ds))) (loaded (edits (take (m - 0) us) (take (m - 0) ws) (take (m - 0) es))) ≡ wave_of as' bs
+    → wave (length (take n ts) + length (take m us)) (loaded (edits (take n ts) (take n vs) (take n ds))) (loaded (edits (take m us) (take m ws) (take m es))) ≡ wave_of as' bs
 unfolding wave_of
 wave-loaded a b = λ i. wave (part_long a i + part_long b i) (loaded (part-loaded a i)) (loaded (part-loaded b i))

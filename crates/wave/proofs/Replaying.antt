@@ -3,9 +3,7 @@
 -- over-append: what is written after what was written. emits_none, emits_append: of the emissions in their columns
 -- left: how many edits are ahead
 -- Replaying goal …: some of the emissions `goal` stand in the columns, and the rest is still to come. replaying_start, replaying_turn, replaying_end: the loop keeps that
--- left_less: a turn leaves fewer edits ahead
--- Long: the slices are as long as they were
-use Prim.Native.Nat.{ℕ, suc, ◌+◌, ◌-◌, ◌≤◌, ◌<◌}
+use Prim.Native.Nat.{ℕ, suc, ◌+◌, ◌-◌, ◌≤◌}
 use native.Mathlib.Omega.{arith}
 use native.Mathlib.Nat.{sub-zero}
 use mathlib.Core.Bool.{true, false}
@@ -77,17 +75,11 @@ replaying_start {ts} {us = us} times firsts seconds diffs a b =
 
 module _ {goal : List Emission} {times firsts seconds : List ℕ} {diffs : List ℤ} {ts vs : List ℕ} {ds : List ℤ} {ms us ws : List ℕ} {es : List ℤ} {ns : List ℕ} {times' firsts' seconds' : List ℕ} {diffs' : List ℤ} {s : Stand}
     (r : Replaying goal times firsts seconds diffs ts vs ds ms us ws es ns times' firsts' seconds' diffs' s) where
-  pub replaying_within : (s.first.at ≤ length ts) × (s.second.at ≤ length us)
-  replaying_within = (r.first.placed.within, r.second.placed.within)
-
   module _ (o : goes_on (length ts) (length us) s ≡ true) {ts' vs' : List ℕ} {ds' : List ℤ} {us' ws' : List ℕ} {es' : List ℤ} {times'' firsts'' seconds'' : List ℕ} {diffs'' : List ℤ} {s' : Stand}
       (lt : length ts' ≡ length ts) (lu : length us' ≡ length us)
       (w : Turned (edits ts vs ds) (edits us ws es) s times' firsts' seconds' diffs' (edits ts' vs' ds') (edits us' ws' es') times'' firsts'' seconds'' diffs'' s') (a : Side ts' vs' ds' ms s'.first) (b : Side us' ws' es' ns s'.second) where
     one_less : left (length ts) (length us) s ≡ suc (left (length ts') (length us') s')
     one_less = omega (arith, on_more (length ts) (length us) s o, r.first.placed.within, r.second.placed.within, w.moved, a.placed.within, b.placed.within)
-
-    pub left_less : left (length ts') (length us') s' < left (length ts) (length us) s
-    left_less = omega (arith, one_less)
 
     pub replaying_turn : Replaying goal times firsts seconds diffs ts' vs' ds' ms us' ws' es' ns times'' firsts'' seconds'' diffs'' s'
     replaying_turn =
@@ -127,31 +119,3 @@ module _ {goal : List Emission} {times firsts seconds : List ℕ} {diffs : List 
           counted = λ h. r.counted ∙ ap length (whole h);
           emitted = λ h. rw (← whole h) r.emitted;
         }
-
--- ---- the slices
-pub record Long (ts vs : List ℕ) (ds : List ℤ) (us ws : List ℕ) (es : List ℤ) (times firsts seconds : List ℕ) (diffs : List ℤ) (ts' vs' : List ℕ) (ds' : List ℤ) (us' ws' : List ℕ) (es' : List ℤ) (times' firsts' seconds' : List ℕ) (diffs' : List ℤ) : Type 0 where
-  pub of_times : length ts' ≡ length ts
-  pub of_values : length vs' ≡ length vs
-  pub of_diffs : length ds' ≡ length ds
-  pub of_othertimes : length us' ≡ length us
-  pub of_othervalues : length ws' ≡ length ws
-  pub of_otherdiffs : length es' ≡ length es
-  pub of_outtimes : length times' ≡ length times
-  pub of_outfirsts : length firsts' ≡ length firsts
-  pub of_outseconds : length seconds' ≡ length seconds
-  pub of_outdiffs : length diffs' ≡ length diffs
-
-pub long_start : (ts vs : List ℕ) (ds : List ℤ) (us ws : List ℕ) (es : List ℤ) (times firsts seconds : List ℕ) (diffs : List ℤ) → Long ts vs ds us ws es times firsts seconds diffs ts vs ds us ws es times firsts seconds diffs
-long_start ts vs ds us ws es times firsts seconds diffs =
-    record {
-      of_times = refl;
-      of_values = refl;
-      of_diffs = refl;
-      of_othertimes = refl;
-      of_othervalues = refl;
-      of_otherdiffs = refl;
-      of_outtimes = refl;
-      of_outfirsts = refl;
-      of_outseconds = refl;
-      of_outdiffs = refl;
-    }

@@ -41,9 +41,9 @@ unfolding turn_emits first_after second_after
 wave-turn n h k = by-test (first_steps h.ahead k.ahead) (λ e. wave-first n h k e ∙ rw e) (λ e. wave-second n h k e ∙ rw e)
 
 module _ (h k : ValueHistory) (e : first_steps h.ahead k.ahead ≡ true) where
-  first_steps_lem : first_after h k ≡ step_one h
+  first_stepped : first_after h k ≡ step_one h
   unfolding first_after
-  first_steps_lem = rw e
+  first_stepped = rw e
 
   first_waits : second_after h k ≡ advanced_by h k
   unfolding second_after
@@ -206,7 +206,7 @@ module _ (s : Stand) {ts vs : List ℕ} {ds : List ℤ} {ms : List ℕ} {us ws :
         let g : turn_emits H K ≡ map (emission (next_of (edits ts vs ds) s.first)) (advanced_by H K).buffer =
         first_emits H K f (next_ahead (edits ts vs ds) s.first (rw (length-edits ts vs ds a.alike) m)) in (
           record {
-            first_is = w.stepped.history ∙ sym (first_steps_lem H K f);
+            first_is = w.stepped.history ∙ sym (first_stepped H K f);
             second_is = w.advanced ∙ sym (first_waits H K f);
             moved = omega (arith, stepped-at a ts' vs' ds' lt lv ld w.stepped m, waited_at b us' ws' es' lu lw le H w.advanced w.other_placed);
             counted = rw (g, length-map) w.counted;

@@ -17,8 +17,9 @@ use Rattle.rules.specs.Memory.{leaves}
 use Rattle.rules.specs.Wave.{Emission, cross, wave_of, WaveAnswer, wave_refused, wave_call}
 use Rattle.rules.proofs.Wave.{WaveOutcome, short, unfit, over, worked, wave-outcome, wave-cross}
 use Rattle.wave.specs.Turns.{emitted_time, emitted_first, emitted_second, emitted_diff}
-use Rattle.wave.specs.Calls.{Called, emissions}
-use Rattle.wave.specs.declared.call.Emitted.{Emitted}
+use Rattle.wave.specs.Calls.{Called, emissions, status_of, count_of}
+use Rattle.wave.specs.declared.call.Refusal.{Refusal}
+use Rattle.std.specs.Prelude.{Result}
 
 emissions-columns : (es : List Emission) → emissions (map emitted_time es) (map emitted_first es) (map emitted_second es) (map emitted_diff es) ≡ es
 unfolding emissions
@@ -36,9 +37,9 @@ answer-worked (unfit l n) e = absurd (omega (arith, e))
 answer-worked (over l r n) e = absurd (omega (arith, e))
 answer-worked (worked l r n) e = refl
 
-module _ (l : Bool) (as' bs : List Edit) {times firsts seconds : List ℕ} {diffs : List ℤ} {times' firsts' seconds' : List ℕ} {diffs' : List ℤ} {r : Emitted}
-    (c : Called (wave_call l as' bs) times firsts seconds diffs times' firsts' seconds' diffs' r) (z : r.status ≡ 0) where
-  pub result_emissions : emissions (take r.count times') (take r.count firsts') (take r.count seconds') (take r.count diffs') ≡ wave_of as' bs
+module _ (l : Bool) (as' bs : List Edit) {times firsts seconds : List ℕ} {diffs : List ℤ} {times' firsts' seconds' : List ℕ} {diffs' : List ℤ} {r : Result ℕ Refusal}
+    (c : Called (wave_call l as' bs) times firsts seconds diffs times' firsts' seconds' diffs' r) (z : status_of r ≡ 0) where
+  pub result_emissions : emissions (take (count_of r) times') (take (count_of r) firsts') (take (count_of r) seconds') (take (count_of r) diffs') ≡ wave_of as' bs
   result_emissions =
       let w = wave_call l as' bs in
       let s : w.status ≡ 0 = sym c.status_is ∙ z in
@@ -49,5 +50,5 @@ module _ (l : Bool) (as' bs : List Edit) {times firsts seconds : List ℕ} {diff
       (column_back emitted_diff w.emitted (pos 0) diffs c.count_is (rw s at c.diffs_are) i))
       ∙ emissions-columns w.emitted ∙ answer-worked (wave-outcome l as' bs) s
 
-  pub result_cross : consolidate (lex ltb (lex ltb ltb)) (emissions (take r.count times') (take r.count firsts') (take r.count seconds') (take r.count diffs')) ≡ consolidate (lex ltb (lex ltb ltb)) (cross as' bs)
+  pub result_cross : consolidate (lex ltb (lex ltb ltb)) (emissions (take (count_of r) times') (take (count_of r) firsts') (take (count_of r) seconds') (take (count_of r) diffs')) ≡ consolidate (lex ltb (lex ltb ltb)) (cross as' bs)
   result_cross = ap (consolidate (lex ltb (lex ltb ltb))) result_emissions ∙ wave-cross as' bs

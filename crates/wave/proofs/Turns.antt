@@ -1,7 +1,7 @@
 -- One step of the wave.
 --
--- lent-pairs, emits_edit: the emissions of one edit, from its columns
--- lent_other, lent_edit: what a step asks of the advance, and of the emissions after it. counts_on: the count fits. turns: what it leaves
+-- emits_edit: the emissions of one edit, from its columns
+-- lent_edit: what a step asks of the emissions after its advance. counts_on: the count fits. turns: what it leaves
 use Prim.Native.Nat.{ℕ, zero, suc, ◌+◌, ◌-◌, ◌≤◌, ◌<◌, ◌^◌}
 use native.Mathlib.Omega.{arith}
 use mathlib.Core.List.{List, [], ◌∷◌, map}
@@ -25,9 +25,9 @@ use Rattle.histories.specs.Places.{history_of, StepsOne}
 use Rattle.edits.specs.Edits.{edits, Alike}
 use Rattle.edits.specs.Buffers.{no_edit, AdvancesEdits}
 use Rattle.edits.proofs.Edits.{diff_of, times-edits, values_edits, diffs-edits, length-edits, edits-take}
-use Rattle.emissions.specs.Emissions.{over, most_diff, Pairs, LentPairs, LentOther}
+use Rattle.emissions.specs.Emissions.{over, most_diff, Pairs}
 use Rattle.wave.specs.Turns.{emitted_time, emitted_first, emitted_second, emitted_diff, Emits, LentEdit, LentTurn, Turns}
-use Rattle.emissions.proofs.Emissions.{small_back, small_still}
+use Rattle.emissions.proofs.Emissions.{small_back}
 
 -- ---- the columns of one edit's emissions
 module _ (e : Edit) where
@@ -83,13 +83,6 @@ module _ (ts vs : List ℕ) (ds : List ℤ) (a : Alike ts vs ds) (n : ℕ) (h : 
   front_length = length-take-le n (edits ts vs ds) (rw (length-edits ts vs ds a) h)
 
 module _ {ts vs : List ℕ} {ds : List ℤ} {at : ℕ} {us ws : List ℕ} {es : List ℤ} {n count : ℕ} (l : LentEdit ts vs ds at us ws es n count) where
-  pub lent-pairs : LentPairs (to_z w64 (of_z w64 (get_or ds at (pos 0)))) us ws es n count
-  lent-pairs =
-      let v : length ws ≡ length us = l.other_alike.values in
-      let d : length es ≡ length us = l.other_alike.diffs in
-      let h : n ≤ length us = l.within in
-      record { in_times_lem = h; in_values_lem = omega arith; in_diffs_lem = omega arith; counts = l.counts; small = small_still (get_or ds at (pos 0)) l.small; all_small = l.other_small }
-
   pub emits_edit : {times firsts seconds times' firsts' seconds' : List ℕ} {diffs diffs' : List ℤ}
       → Pairs (get_or ts at 0) (get_or vs at 0) (to_z w64 (of_z w64 (get_or ds at (pos 0)))) (take n us) (take n ws) (take n es) n count times firsts seconds diffs times' firsts' seconds' diffs'
       → Emits (map (emission (get_or (edits ts vs ds) at no_edit)) (take n (edits us ws es))) count times firsts seconds diffs times' firsts' seconds' diffs'
@@ -108,9 +101,6 @@ module _ {ts vs : List ℕ} {ds : List ℤ} {at : ℕ} {us ws : List ℕ} {es : 
 module _ {ts vs : List ℕ} {ds : List ℤ} {ms : List ℕ} {p : Place} {us ws : List ℕ} {es : List ℤ} {q : Place} {count : ℕ} (l : LentTurn ts vs ds ms p us ws es q count) where
   counted_within : q.count ≤ length us
   counted_within = omega (arith, l.other_placed.behind, l.other_placed.within)
-
-  pub lent_other : LentOther q.count us ws es
-  lent_other = record { alike = l.other_alike; within = counted_within; bounded = omega (arith, l.other_small); few = l.other_few }
 
   module _ (us' ws' : List ℕ) (es' : List ℤ) {n : ℕ} (w : AdvancesEdits (meets (drop p.at ts) none) q.count (edits us ws es) (edits us' ws' es') n) where
     pub counts_on : count + n < 2 ^ 63

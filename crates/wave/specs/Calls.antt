@@ -5,9 +5,10 @@
 -- level: three columns are of one length. roomy: the four columns of results are long enough. lent_well: columns and memory are as long as they must be
 -- small_diff: a diff is from -2^20 to 2^20
 -- status_before: the status that a call has before any work
+-- status_of r: the status of an answer, 0 where it is not refused. count_of r: how many pairs it tells, 0 where it is refused
 -- Called w …: the answer w was given, and the four columns hold what it leaves
 -- emissions: what four columns hold
-use Rattle.std.specs.Prelude.{ℕ, ◌≤◌, Bool, cond, ◌&&◌, List, [], ◌∷◌, map, ◌≡◌, eqb, leb, ℤ, pos, nat_abs, length, take}
+use Rattle.std.specs.Prelude.{ℕ, ◌≤◌, Bool, cond, ◌&&◌, List, [], ◌∷◌, map, ◌≡◌, eqb, leb, ℤ, pos, nat_abs, length, take, Result, Ok, Err}
 use Rattle.std.proofs.Math.Option.{none}
 use Rattle.rules.specs.Histories.{Edit, load_edits}
 use Rattle.rules.specs.Memory.{leaves}
@@ -17,7 +18,8 @@ use Rattle.wave.specs.Turns.{emitted_time, emitted_first, emitted_second, emitte
 use Rattle.emissions.specs.Emissions.{most_edits}
 use Rattle.emissions.specs.Heads.{most_emissions}
 use Rattle.wave.specs.Replays.{Side, fresh}
-use Rattle.wave.specs.declared.call.Emitted.{Emitted}
+use Rattle.wave.specs.declared.call.Refusal.{Refusal}
+use Rattle.wave.specs.declared.call.Refusal.TheVariants.{Short, Unfit, Over}
 
 pub record Blank (ts vs : List ℕ) (ds : List ℤ) (ms : List ℕ) : Type 0 where
   pub for_times : length ts ≡ most_edits
@@ -47,9 +49,19 @@ unfoldable pub status_before : Bool → List Edit → List Edit → ℕ
 status_before lent as' bs = cond lent (cond (good_wave_run as' && good_wave_run bs) 0 14) 11
 
 -- ---- the answer
-pub record Called (w : WaveAnswer) (times firsts seconds : List ℕ) (diffs : List ℤ) (times' firsts' seconds' : List ℕ) (diffs' : List ℤ) (r : Emitted) : Type 0 where
-  pub status_is : r.status ≡ w.status
-  pub count_is : r.count ≡ length w.emitted
+abbrev pub status_of : {A : Type 0} → Result A Refusal → ℕ
+status_of (Ok x) = 0
+status_of (Err Short) = 11
+status_of (Err Unfit) = 14
+status_of (Err Over) = 18
+
+abbrev pub count_of : Result ℕ Refusal → ℕ
+count_of (Ok n) = n
+count_of (Err e) = 0
+
+pub record Called (w : WaveAnswer) (times firsts seconds : List ℕ) (diffs : List ℤ) (times' firsts' seconds' : List ℕ) (diffs' : List ℤ) (r : Result ℕ Refusal) : Type 0 where
+  pub status_is : status_of r ≡ w.status
+  pub count_is : count_of r ≡ length w.emitted
   pub times_are : times' ≡ leaves 0 w.status times (map emitted_time w.emitted)
   pub firsts_are : firsts' ≡ leaves 0 w.status firsts (map emitted_first w.emitted)
   pub seconds_are : seconds' ≡ leaves 0 w.status seconds (map emitted_second w.emitted)

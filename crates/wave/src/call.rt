@@ -5,15 +5,19 @@ ghost use Rattle.rules.proofs.Wave.{WaveRun};
 ghost use Rattle.edits.specs.Edits.{edits, Alike};
 ghost use Rattle.wave.specs.Calls.{roomy, lent_well, Called};
 
-use crate::checks::status_before;
+use crate::checks::check;
 use crate::loads::emit_all;
 use emissions::{MOST_EMISSIONS, clear_columns};
 
-// The status, and how many pairs were emitted.
-#[derive(Clone, Copy)]
-pub struct Emitted {
-    pub status: u64,
-    pub count: usize,
+// Why a call is refused.
+#[derive(Clone, Copy, PartialEq, Eq, Debug)]
+pub enum Refusal {
+    // 11: columns of unequal lengths, or a column of results shorter than MOST_EMISSIONS.
+    Short,
+    // 14: over MOST_EDITS edits a side, or a diff outside -2^20 to 2^20.
+    Unfit,
+    // 18: over MOST_EMISSIONS pairs.
+    Over,
 }
 
 // A call that passed the checks.
@@ -28,10 +32,10 @@ fn work(
     outfirsts: &mut [u64],
     outseconds: &mut [u64],
     outdiffs: &mut [i64],
-) -> Emitted
-    requires alike { Alike firsttimes.now firstvalues.now firstdiffs.now × WaveRun (edits firsttimes.now firstvalues.now firstdiffs.now) }
-    requires alike_2 { Alike secondtimes.now secondvalues.now seconddiffs.now × WaveRun (edits secondtimes.now secondvalues.now seconddiffs.now) }
-    requires outdiffs_value { roomy outtimes.old outfirsts.old outseconds.old outdiffs.old ≡ true }
+) -> Result<usize, Refusal>
+    requires first_run { Alike firsttimes.now firstvalues.now firstdiffs.now × WaveRun (edits firsttimes.now firstvalues.now firstdiffs.now) }
+    requires second_run { Alike secondtimes.now secondvalues.now seconddiffs.now × WaveRun (edits secondtimes.now secondvalues.now seconddiffs.now) }
+    requires room { roomy outtimes.old outfirsts.old outseconds.old outdiffs.old ≡ true }
     ensures { Called (wave_call true (edits firsttimes.now firstvalues.now firstdiffs.now) (edits secondtimes.now secondvalues.now seconddiffs.now)) outtimes.old outfirsts.old outseconds.old outdiffs.old outtimes.new outfirsts.new outseconds.new outdiffs.new result }
 {
     clear_columns(outtimes, outfirsts, outseconds, outdiffs);
@@ -49,18 +53,15 @@ fn work(
     );
     if count > MOST_EMISSIONS {
         clear_columns(outtimes, outfirsts, outseconds, outdiffs);
-        return Emitted {
-            status: 18,
-            count: 0,
-        };
+        Err(Refusal::Over)
+    } else {
+        Ok(count)
     }
-    Emitted { status: 0, count }
 }
 
 // The pairs of two runs of edits, in the order in which the histories meet them: the joined time, the two values, the multiplied diff. A run
-// is taken in any order. Status 11: columns of unequal lengths, or a column of results shorter than MOST_EMISSIONS; 14: over MOST_EDITS
-// edits a side, or a diff outside -2^20 to 2^20; both leave the columns of results as they were. 18: over MOST_EMISSIONS pairs; the columns
-// are all zero. 0: the pairs, then zeros.
+// is taken in any order. Returns how many pairs there are: the columns of results hold them, then zeros. What is refused before any work
+// leaves those columns as they were; over MOST_EMISSIONS pairs, they are all zero.
 pub fn bilinear_wave(
     firsttimes: &[u64],
     firstvalues: &[u64],
@@ -72,10 +73,10 @@ pub fn bilinear_wave(
     outfirsts: &mut [u64],
     outseconds: &mut [u64],
     outdiffs: &mut [i64],
-) -> Emitted
+) -> Result<usize, Refusal>
     ensures { Called (wave_call (lent_well firsttimes.now firstvalues.now firstdiffs.now secondtimes.now secondvalues.now seconddiffs.now outtimes.old outfirsts.old outseconds.old outdiffs.old) (edits firsttimes.now firstvalues.now firstdiffs.now) (edits secondtimes.now secondvalues.now seconddiffs.now)) outtimes.old outfirsts.old outseconds.old outdiffs.old outtimes.new outfirsts.new outseconds.new outdiffs.new result }
 {
-    let status = status_before(
+    check(
         firsttimes,
         firstvalues,
         firstdiffs,
@@ -86,10 +87,7 @@ pub fn bilinear_wave(
         outfirsts,
         outseconds,
         outdiffs,
-    );
-    if status != 0 {
-        return Emitted { status, count: 0 };
-    }
+    )?;
     work(
         firsttimes,
         firstvalues,

@@ -7,4 +7,4 @@ mod loads;
 mod replay;
 mod stepping;
 
-pub use call::{Emitted, bilinear_wave};
+pub use call::{Refusal, bilinear_wave};

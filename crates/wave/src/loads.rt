@@ -9,7 +9,6 @@ use crate::replay::replay;
 use edits::load_edits;
 use emissions::MOST_EDITS;
 use histories::suffix_meets;
-use times::Meet;
 
 // Loads one side as a history, with the meets of all its suffixes. Returns how many edits it has.
 fn load_side(
@@ -28,7 +27,7 @@ fn load_side(
     let mut joined = [0u64; MOST_EDITS];
     let mut places = [0u64; MOST_EDITS];
     let n = load_edits(
-        Meet::Absent,
+        None,
         fromtimes,
         fromvalues,
         fromdiffs,
@@ -56,8 +55,8 @@ pub fn emit_all(
     outseconds: &mut [u64],
     outdiffs: &mut [i64],
 ) -> usize
-    requires alike { Alike firsttimes.now firstvalues.now firstdiffs.now × WaveRun (edits firsttimes.now firstvalues.now firstdiffs.now) }
-    requires alike_2 { Alike secondtimes.now secondvalues.now seconddiffs.now × WaveRun (edits secondtimes.now secondvalues.now seconddiffs.now) }
+    requires first_run { Alike firsttimes.now firstvalues.now firstdiffs.now × WaveRun (edits firsttimes.now firstvalues.now firstdiffs.now) }
+    requires second_run { Alike secondtimes.now secondvalues.now seconddiffs.now × WaveRun (edits secondtimes.now secondvalues.now seconddiffs.now) }
     ensures { Replayed (wave_of (edits firsttimes.now firstvalues.now firstdiffs.now) (edits secondtimes.now secondvalues.now seconddiffs.now)) outtimes.old outfirsts.old outseconds.old outdiffs.old outtimes.new outfirsts.new outseconds.new outdiffs.new result }
 {
     let mut times = [0u64; MOST_EDITS];
@@ -87,13 +86,13 @@ pub fn emit_all(
         &mut othersuffixes,
     );
     replay(
-        &mut times[0..n],
-        &mut values[0..n],
-        &mut diffs[0..n],
+        &mut times[..n],
+        &mut values[..n],
+        &mut diffs[..n],
         &suffixes,
-        &mut othertimes[0..m],
-        &mut othervalues[0..m],
-        &mut otherdiffs[0..m],
+        &mut othertimes[..m],
+        &mut othervalues[..m],
+        &mut otherdiffs[..m],
         &othersuffixes,
         outtimes,
         outfirsts,

@@ -26,12 +26,12 @@ fn turn(
     outdiffs: &mut [i64],
     s: Stand,
 ) -> Stand
-    requires side { Side times.old values.old diffs.old suffixes.now s.first }
-    requires side_2 { Side othertimes.old othervalues.old otherdiffs.old othersuffixes.now s.second }
-    requires count_le_most_emissions { (s.count ≤ most_emissions) × (s.first.at + s.second.at < length times.old + length othertimes.old) }
+    requires first_side { Side times.old values.old diffs.old suffixes.now s.first }
+    requires second_side { Side othertimes.old othervalues.old otherdiffs.old othersuffixes.now s.second }
+    requires more { (s.count ≤ most_emissions) × (s.first.at + s.second.at < length times.old + length othertimes.old) }
     ensures turned { Turned (edits times.old values.old diffs.old) (edits othertimes.old othervalues.old otherdiffs.old) s outtimes.old outfirsts.old outseconds.old outdiffs.old (edits times.new values.new diffs.new) (edits othertimes.new othervalues.new otherdiffs.new) outtimes.new outfirsts.new outseconds.new outdiffs.new result }
-    ensures side_3 { Side times.new values.new diffs.new suffixes.now result.first }
-    ensures side_4 { Side othertimes.new othervalues.new otherdiffs.new othersuffixes.now result.second }
+    ensures first_side { Side times.new values.new diffs.new suffixes.now result.first }
+    ensures second_side { Side othertimes.new othervalues.new otherdiffs.new othersuffixes.now result.second }
 {
     let p = s.first;
     let q = s.second;
@@ -52,36 +52,33 @@ fn turn(
             outdiffs,
             s.count,
         );
-        let first = t.stepped;
-        let second = t.other;
-        return Stand {
-            first,
-            second,
+        Stand {
+            first: t.stepped,
+            second: t.other,
             count: t.count,
-        };
-    }
-    let t = step_beside(
-        othertimes,
-        othervalues,
-        otherdiffs,
-        othersuffixes,
-        q,
-        times,
-        values,
-        diffs,
-        p,
-        outtimes,
-        outseconds,
-        outfirsts,
-        outdiffs,
-        s.count,
-    );
-    let first = t.other;
-    let second = t.stepped;
-    Stand {
-        first,
-        second,
-        count: t.count,
+        }
+    } else {
+        let t = step_beside(
+            othertimes,
+            othervalues,
+            otherdiffs,
+            othersuffixes,
+            q,
+            times,
+            values,
+            diffs,
+            p,
+            outtimes,
+            outseconds,
+            outfirsts,
+            outdiffs,
+            s.count,
+        );
+        Stand {
+            first: t.other,
+            second: t.stepped,
+            count: t.count,
+        }
     }
 }
 
@@ -101,8 +98,8 @@ pub fn replay(
     outseconds: &mut [u64],
     outdiffs: &mut [i64],
 ) -> usize
-    requires side { Side times.old values.old diffs.old suffixes.now fresh }
-    requires side_2 { Side othertimes.old othervalues.old otherdiffs.old othersuffixes.now fresh }
+    requires first_side { Side times.old values.old diffs.old suffixes.now fresh }
+    requires second_side { Side othertimes.old othervalues.old otherdiffs.old othersuffixes.now fresh }
     ensures { Replayed (wave (length times.old + length othertimes.old) (loaded (edits times.old values.old diffs.old)) (loaded (edits othertimes.old othervalues.old otherdiffs.old))) outtimes.old outfirsts.old outseconds.old outdiffs.old outtimes.new outfirsts.new outseconds.new outdiffs.new result }
 {
     let mut s = Stand {
@@ -110,6 +107,7 @@ pub fn replay(
         second: Place { count: 0, at: 0 },
         count: 0,
     };
+    // No `for`: which of the two places moves, and how often, is known only by the heads.
     while goes_on(times, othertimes, s) {
         s = turn(
             times,

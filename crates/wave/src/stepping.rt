@@ -37,11 +37,10 @@ fn emit_edit(
     requires { LentEdit times.now values.now diffs.now at othertimes.now othervalues.now otherdiffs.now n count }
     ensures { Emits (map (emission (get_or (edits times.now values.now diffs.now) at no_edit)) (take n (edits othertimes.now othervalues.now otherdiffs.now))) count outtimes.old outvalues.old outothers.old outdiffs.old outtimes.new outvalues.new outothers.new outdiffs.new }
 {
-    let diff = diffs[at];
     emit_pairs(
         PackedTime(times[at]),
         values[at],
-        diff,
+        diffs[at],
         othertimes,
         othervalues,
         otherdiffs,

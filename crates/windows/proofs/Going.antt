@@ -2,17 +2,14 @@
 --
 -- SameLong: the memory is as long as at the start. same_start, same_more, lent_still: it stays so, and serves each window
 -- Going: what the loop keeps. going_start, going_more, going_end: it does
--- going_within, going_fits, going_range: where the next window lies. going_asks: what its turn asks. going_less: fewer keys are left
-use Prim.Native.Nat.{ℕ, ◌+◌, ◌-◌, ◌*◌, ◌≤◌, ◌<◌, min}
+-- going_asks: what the next window's turn asks. going_less: fewer keys are left
+use Prim.Native.Nat.{ℕ, ◌+◌, ◌-◌, ◌≤◌, ◌<◌, min}
 use native.Mathlib.Omega.{arith}
-use mathlib.Core.Bool.{true, false, ◌&&◌, not}
+use mathlib.Core.Bool.{false}
 use mathlib.Core.List.{List}
-use mathlib.Core.Path.{◌≡◌, refl, sym, ◌∙◌, ap}
-use lib.Dec.{ltb}
+use mathlib.Core.Path.{◌≡◌, refl, ◌∙◌}
 use lib.IntN.{ℤ}
 use lib.ListN.{length}
-use mir.Syntax.{w64}
-use mir.Val.{Fits}
 use Rattle.backends.specs.Segments.{part}
 use Rattle.backends.proofs.Segments.{part_length}
 use Rattle.progress.specs.declared.Progress.{Progress}
@@ -84,53 +81,37 @@ module _ {moments₀ uv₀ ut₀ : List ℕ} {ud₀ : List ℤ} {iv₀ : List �
   same_more h = record { of_moments = h.0 ∙ S.of_moments; of_uv = h.1.0 ∙ S.of_uv; of_ut = h.1.1.0 ∙ S.of_ut; of_ud = h.1.1.1.0 ∙ S.of_ud; of_iv = h.1.1.1.1.0 ∙ S.of_iv; of_id = h.1.1.1.1.1.0 ∙ S.of_id; of_ov = h.1.1.1.1.1.1.0 ∙ S.of_ov; of_od = h.1.1.1.1.1.1.1.0 ∙ S.of_od; of_cd = h.1.1.1.1.1.1.1.1.0 ∙ S.of_cd; of_wv = h.1.1.1.1.1.1.1.1.1.0 ∙ S.of_wv; of_seeds = h.1.1.1.1.1.1.1.1.1.1.0 ∙ S.of_seeds; of_output = h.1.1.1.1.1.1.1.1.1.1.1.0 ∙ S.of_output; of_tracked = h.1.1.1.1.1.1.1.1.1.1.1.1.0 ∙ S.of_tracked; of_nk = h.1.1.1.1.1.1.1.1.1.1.1.1.1.0 ∙ S.of_nk; of_nt = h.1.1.1.1.1.1.1.1.1.1.1.1.1.1.0 ∙ S.of_nt; of_fk = h.1.1.1.1.1.1.1.1.1.1.1.1.1.1.1.0 ∙ S.of_fk; of_fv = h.1.1.1.1.1.1.1.1.1.1.1.1.1.1.1.1.0 ∙ S.of_fv; of_ft = h.1.1.1.1.1.1.1.1.1.1.1.1.1.1.1.1.1.0 ∙ S.of_ft; of_fd = h.1.1.1.1.1.1.1.1.1.1.1.1.1.1.1.1.1.1.0 ∙ S.of_fd; of_res = h.1.1.1.1.1.1.1.1.1.1.1.1.1.1.1.1.1.1.1.0 ∙ S.of_res }
 
 -- ---- the loop
-pub record Going (R : Runs) (mode width : ℕ) (keys : List ℕ) (n : ℕ) (moments₀ uv₀ ut₀ : List ℕ) (ud₀ : List ℤ) (iv₀ : List ℕ) (id₀ : List ℤ) (ov₀ : List ℕ) (od₀ cd₀ : List ℤ) (wv₀ seeds₀ output₀ tracked₀ nk₀ nt₀ fk₀ fv₀ ft₀ : List ℕ) (fd₀ : List ℤ) (res₀ : List ℕ)
+pub record Going (R : Runs) (mode width : ℕ) (keys : List ℕ) (moments₀ uv₀ ut₀ : List ℕ) (ud₀ : List ℤ) (iv₀ : List ℕ) (id₀ : List ℤ) (ov₀ : List ℕ) (od₀ cd₀ : List ℤ) (wv₀ seeds₀ output₀ tracked₀ nk₀ nt₀ fk₀ fv₀ ft₀ : List ℕ) (fd₀ : List ℤ) (res₀ : List ℕ)
     (moments uv ut : List ℕ) (ud : List ℤ) (iv : List ℕ) (id : List ℤ) (ov : List ℕ) (od cd : List ℤ) (wv seeds output tracked nk nt fk fv ft : List ℕ) (fd : List ℤ) (res : List ℕ) (p : ℕ) (w : Progress) : Type 0 where
   pub loops : Loops (length fk₀) R width keys
-  pub all_keys : n ≡ length keys
   pub lent : LentWork (length fk₀) (min width (length keys)) moments₀ uv₀ ut₀ ud₀ iv₀ id₀ ov₀ od₀ cd₀ wv₀ seeds₀ output₀ tracked₀ nk₀ nt₀ fk₀ fv₀ ft₀ fd₀ res₀
   pub same : SameLong moments₀ uv₀ ut₀ ud₀ iv₀ id₀ ov₀ od₀ cd₀ wv₀ seeds₀ output₀ tracked₀ nk₀ nt₀ fk₀ fv₀ ft₀ fd₀ res₀ moments uv ut ud iv id ov od cd wv seeds output tracked nk nt fk fv ft fd res
   pub looping : Looping (length fk₀) R mode width keys nk nt fk fv ft fd p w
 
-pub going_start : {R : Runs} (mode : ℕ) {width : ℕ} {keys : List ℕ} {n : ℕ} {moments uv ut : List ℕ} {ud : List ℤ} {iv : List ℕ} {id : List ℤ} {ov : List ℕ} {od cd : List ℤ} {wv seeds output tracked nk nt fk fv ft : List ℕ} {fd : List ℤ} {res : List ℕ}
-    → Loops (length fk) R width keys → n ≡ length keys → LentWork (length fk) (min width (length keys)) moments uv ut ud iv id ov od cd wv seeds output tracked nk nt fk fv ft fd res → Going R mode width keys n moments uv ut ud iv id ov od cd wv seeds output tracked nk nt fk fv ft fd res moments uv ut ud iv id ov od cd wv seeds output tracked nk nt fk fv ft fd res 0 fresh
-going_start mode {nk = nk} {nt} {fk} {fv} {ft} {fd} l e m = record { loops = l; all_keys = e; lent = m; same = same_start; looping = looping_start mode l nk nt fk fv ft fd }
+pub going_start : {R : Runs} (mode : ℕ) {width : ℕ} {keys : List ℕ} {moments uv ut : List ℕ} {ud : List ℤ} {iv : List ℕ} {id : List ℤ} {ov : List ℕ} {od cd : List ℤ} {wv seeds output tracked nk nt fk fv ft : List ℕ} {fd : List ℤ} {res : List ℕ}
+    → Loops (length fk) R width keys → LentWork (length fk) (min width (length keys)) moments uv ut ud iv id ov od cd wv seeds output tracked nk nt fk fv ft fd res → Going R mode width keys moments uv ut ud iv id ov od cd wv seeds output tracked nk nt fk fv ft fd res moments uv ut ud iv id ov od cd wv seeds output tracked nk nt fk fv ft fd res 0 fresh
+going_start mode {nk = nk} {nt} {fk} {fv} {ft} {fd} l m = record { loops = l; lent = m; same = same_start; looping = looping_start mode l nk nt fk fv ft fd }
 
-module _ {R : Runs} {mode width : ℕ} {keys : List ℕ} {n : ℕ} {moments₀ uv₀ ut₀ : List ℕ} {ud₀ : List ℤ} {iv₀ : List ℕ} {id₀ : List ℤ} {ov₀ : List ℕ} {od₀ cd₀ : List ℤ} {wv₀ seeds₀ output₀ tracked₀ nk₀ nt₀ fk₀ fv₀ ft₀ : List ℕ} {fd₀ : List ℤ} {res₀ : List ℕ}
+module _ {R : Runs} {mode width : ℕ} {keys : List ℕ} {moments₀ uv₀ ut₀ : List ℕ} {ud₀ : List ℤ} {iv₀ : List ℕ} {id₀ : List ℤ} {ov₀ : List ℕ} {od₀ cd₀ : List ℤ} {wv₀ seeds₀ output₀ tracked₀ nk₀ nt₀ fk₀ fv₀ ft₀ : List ℕ} {fd₀ : List ℤ} {res₀ : List ℕ}
     {moments uv ut : List ℕ} {ud : List ℤ} {iv : List ℕ} {id : List ℤ} {ov : List ℕ} {od cd : List ℤ} {wv seeds output tracked nk nt fk fv ft : List ℕ} {fd : List ℤ} {res : List ℕ} {p : ℕ} {w : Progress}
-    (g : Going R mode width keys n moments₀ uv₀ ut₀ ud₀ iv₀ id₀ ov₀ od₀ cd₀ wv₀ seeds₀ output₀ tracked₀ nk₀ nt₀ fk₀ fv₀ ft₀ fd₀ res₀ moments uv ut ud iv id ov od cd wv seeds output tracked nk nt fk fv ft fd res p w) where
-  to_length : (not w.over && ltb p n) ≡ (not w.over && ltb p (length keys))
-  to_length = ap (λ i. not w.over && ltb p i) g.all_keys
-
-  pub going_within : p ≤ n
-  going_within = omega (arith, g.all_keys, g.looping.within)
-
-  pub going_fits : Fits w64 (p * 8)
-  going_fits = omega (arith, g.looping.within, g.loops.few)
-
-  module _ (goes : (not w.over && ltb p n) ≡ true) {e : ℕ} (e-is : e ≡ min (p + width) n) where
-    goes' : (not w.over && ltb p (length keys)) ≡ true
-    goes' = sym to_length ∙ goes
-
-    e_is' : e ≡ min (p + width) (length keys)
-    e_is' = e-is ∙ ap (λ i. min (p + width) i) g.all_keys
-
-    pub going_range : (p ≤ e) × (e ≤ length keys)
-    going_range = (omega (arith, e_is', g.looping.within), omega (arith, e_is'))
+    (g : Going R mode width keys moments₀ uv₀ ut₀ ud₀ iv₀ id₀ ov₀ od₀ cd₀ wv₀ seeds₀ output₀ tracked₀ nk₀ nt₀ fk₀ fv₀ ft₀ fd₀ res₀ moments uv ut ud iv id ov od cd wv seeds output tracked nk nt fk fv ft fd res p w) where
+  module _ (before : p < length keys) (under : w.over ≡ false) {e : ℕ} (e-is : e ≡ min (p + width) (length keys)) where
+    going_range : (p ≤ e) × (e ≤ length keys)
+    going_range = (omega (arith, e-is), omega (arith, e-is))
 
     pub going_less : length keys - e < length keys - p
-    going_less = looping_less g.looping g.loops goes' e_is'
+    going_less = looping_less g.looping g.loops before under e-is
 
     window_few : length (part p e keys) ≤ min width (length keys)
-    window_few = omega (arith, part_length p e keys going_range.0 going_range.1, e_is', g.looping.within)
+    window_few = omega (arith, part_length p e keys going_range.0 going_range.1, e-is, g.looping.within)
 
     pub going_asks : LentWork (length fk) (length (part p e keys)) moments uv ut ud iv id ov od cd wv seeds output tracked nk nt fk fv ft fd res × Takes (length fk) R (part p e keys) w
-    going_asks = rw g.same.of_fk (lent_still g.same window_few g.lent, looping_takes g.looping g.loops goes' e_is')
+    going_asks = rw g.same.of_fk (lent_still g.same window_few g.lent, looping_takes g.looping g.loops before under e-is)
 
     pub going_more : {nk' nt' fk' fv' ft' : List ℕ} {fd' : List ℤ} {r : Progress} → Turned (length fk) R mode (part p e keys) w nk nt fk fv ft fd nk' nt' fk' fv' ft' fd' r → Looping (length fk₀) R mode width keys nk' nt' fk' fv' ft' fd' e r
     going_more T =
         let m = lent_still g.same window_few g.lent in
-        looping_more g.looping g.loops goes' e_is' (rw g.same.of_fk at T) m.long_nk m.long_nt m.lent
+        looping_more g.looping g.loops before under e-is (rw g.same.of_fk at T) m.long_nk m.long_nt m.lent
 
-  pub going_end : {c : Course} → (not w.over && ltb p n) ≡ false → c ≡ course_of w → Ended (length fk₀) R mode width keys nk nt fk fv ft fd c
-  going_end t e = rw e (looping_end g.looping g.loops (sym to_length ∙ t))
+  pub going_end : {c : Course} → (w.over ≡ false → length keys ≤ p) → c ≡ course_of w → Ended (length fk₀) R mode width keys nk nt fk fv ft fd c
+  going_end t e = rw e (looping_end g.looping g.loops t)

@@ -6,7 +6,7 @@ ghost use Rattle.looping.specs.Looped.{Loops, Ended};
 
 use answers::Course;
 use looping::{course, window_end};
-use progress::{Progress, goes_on};
+use progress::Progress;
 use turns::work_window;
 
 // Works all windows of the changed keys. Once a limit is passed, the others are left out.
@@ -54,18 +54,9 @@ pub fn work_windows(
 {
     let n = keys.len();
     let mut p = 0;
-    let mut w = Progress {
-        new: 0,
-        pending: 0,
-        input: 0,
-        out: 0,
-        pended: 0,
-        fixes: 0,
-        crossings: 0,
-        large: false,
-        over: false,
-    };
-    while goes_on(p, n, w.over) {
+    let mut w = Progress::default();
+    // A turn works a whole window, so the index goes by the width.
+    while p < n && !w.over {
         let e = window_end(p, width, n);
         w = work_window(
             mode,

@@ -1,6 +1,6 @@
 -- A call that works: what the checks say of its runs, and what it leaves.
 --
--- begins-room: how long its memory is. runs_of l c: its runs as its windows read them, c being its input
+-- begins-room: how long its memory is. work_runs l c: its runs as its windows read them, c being its input
 -- forms, forms-room: what forming the input asks
 -- asked, few, answering: the runs are the request's, and are as the rest of the work asks
 -- work-retires: what the call says and leaves
@@ -10,7 +10,7 @@ use native.Mathlib.Nat.{sub-zero}
 use native.Mathlib.Omega.{arith}
 use mathlib.Core.Bool.{Bool, true, ◌&&◌}
 use mathlib.Core.List.{List, [], ◌∷◌, ◌++◌, map, map-map}
-use mathlib.Core.Path.{◌≡◌, refl, sym, ◌∙◌, ap}
+use mathlib.Core.Path.{◌≡◌, refl, sym, ◌∙◌, ap, subst}
 use lib.Dec.{eqb}
 use lib.IntN.{ℤ, pos}
 use lib.ListN.{length, take, replicate, length-map, length-take}
@@ -30,6 +30,10 @@ use Rattle.grid.proofs.Operations.{pairs_keys}
 use Rattle.keys.proofs.Ranked.{ranked_run, ranked_together, ranked_keys, pending_keys_lem, run-diffs, together-diffs, changed_is}
 use Rattle.answers.specs.declared.Outcome.{Outcome}
 use Rattle.turns.specs.Runs.{Runs, runs, Good, Asked}
+use Rattle.requests.specs.declared.Request.{Request as LentRequest}
+use Rattle.requests.specs.declared.Run.{Run}
+use Rattle.requests.specs.Runs.{columns_of}
+use Rattle.concluding.specs.Lending.{formed_runs, runs_of}
 use Rattle.demands.specs.Answers.{Retires}
 use Rattle.demands.specs.Lending.{heads, column_needed, moments_needed, needed, memory, lent}
 use Rattle.demands.proofs.Lending.{changed_few}
@@ -59,8 +63,8 @@ pub begins-room :
 begins-room {mode} {width} {lower} {upper} {held} {old} {new} {out} {ks} {ts} {res} {rd} {moments} {tk} {tv} {tt} {uv} {ut} {td} {ud} B =
     room_of mode width lower upper held old new out ks ts res rd moments tk tv tt uv ut td ud (lent_room (lent mode width lower upper held old new out ks ts (memory res rd moments tk tv tt uv ut td ud)) B.well)
 
-abbrev pub runs_of : Lent → Columns → Runs
-runs_of l c =
+abbrev pub work_runs : Lent → Columns → Runs
+work_runs l c =
     runs l.upper l.new.keys l.new.times l.pending_keys l.pending_times c.keys c.values c.times c.diffs
     l.out.keys l.out.values l.out.times l.out.diffs
 
@@ -144,7 +148,7 @@ module _ {l : Lent} (B : Begins l) where
 
   -- ---- what the work asks
   module _ {n : ℕ} {c : Columns} (F : Formed l.old l.new n c) where
-    pub asked : Asked (request_of l) l.mode l.width (runs_of l (cut n c)) (puts (l.new.keys ++ l.pending_keys) [])
+    pub asked : Asked (request_of l) l.mode l.width (work_runs l (cut n c)) (puts (l.new.keys ++ l.pending_keys) [])
     unfolding request_of rows_of
     asked = record {
       mode_is = refl;
@@ -169,7 +173,7 @@ module _ {l : Lent} (B : Begins l) where
           let d : length (take n c.diffs) ≡ n = rw length-take (omega (arith, r.for_diffs)) in
           record { values_long = v ∙ sym k; times_long = t ∙ sym k; diffs_long = d ∙ sym k }
 
-      good : Good most_records (runs_of l (cut n c))
+      good : Good most_records (work_runs l (cut n c))
       unfolding rows_of check15 request_of
       good = record {
         new_level = alike-times l.new levels.1;
@@ -191,7 +195,7 @@ module _ {l : Lent} (B : Begins l) where
       -- work memory may have changed, but for its length
       pub answering :
           {moments res : List ℕ} {rd : List ℤ} → moments_needed l.width (length l.old.keys) l.new.keys l.pending_keys ≤ length moments → 25632 ≤ length res → 4096 ≤ length rd
-          → Answering most_records (runs_of l (cut n c)) l.width l.lower l.held moments res rd
+          → Answering most_records (work_runs l (cut n c)) l.width l.lower l.held moments res rd
       unfolding request_of
       answering a f g = record {
         good = good;
@@ -240,3 +244,12 @@ same_six p q r s t u = λ i. p i ∷ q i ∷ r i ∷ s i ∷ t i ∷ u i ∷ []
 
 pub same_two : {a b a' b' : ℕ} → a ≡ a' → b ≡ b' → (a ∷ b ∷ []) ≡ (a' ∷ b' ∷ [])
 same_two p q = λ i. p i ∷ q i ∷ []
+
+-- ---- the input as a run that is lent
+module _ (q : LentRequest) (input : Run) {c : Columns} (e : columns_of input ≡ c) where
+  pub input_asked : {most width : ℕ} {lower held moments res : List ℕ} {rd : List ℤ} → Answering most (formed_runs q c) width lower held moments res rd → Answering most (runs_of q input) width lower held moments res rd
+  input_asked {most} {width} {lower} {held} {moments} {res} {rd} = subst (λ x. Answering most (formed_runs q x) width lower held moments res rd) (sym e)
+
+  pub input_answered : {mode width : ℕ} {lower held : List ℕ} {o : Outcome} {res res' : List ℕ} {rd rd' : List ℤ}
+      → Answered (runs_of q input) mode width lower held o res res' rd rd' → Answered (formed_runs q c) mode width lower held o res res' rd rd'
+  input_answered {mode} {width} {lower} {held} {o} {res} {res'} {rd} {rd'} = subst (λ x. Answered (formed_runs q x) mode width lower held o res res' rd rd') e

@@ -1,114 +1,38 @@
 // The answer of a call, in as much memory as it takes.
 ghost use Rattle.grid.specs.Records.{most_records};
-ghost use Rattle.turns.specs.Runs.{runs};
+ghost use Rattle.requests.specs.Memory.{SameResults};
+ghost use Rattle.concluding.specs.Lending.{runs_of};
 ghost use Rattle.concluding.specs.Answered.{Answering, Answered};
 
 use answers::Outcome;
 use brief::answer_briefly;
 use concluding::is_few;
 use full::answer_fully;
+use requests::{Request, ResultMemory, Run};
 
 // Answers a call whose input is formed. Where it has few records, little memory is tried first.
 pub fn answer(
-    mode: u64,
-    width: usize,
-    lower: &[u64],
-    upper: &[u64],
-    held: &[u64],
-    newkeys: &[u64],
-    newtimes: &[u64],
-    pendingkeys: &[u64],
-    pendingtimes: &[u64],
-    tk: &[u64],
-    tv: &[u64],
-    tt: &[u64],
-    td: &[i64],
-    outkeys: &[u64],
-    outvalues: &[u64],
-    outtimes: &[u64],
-    outdiffs: &[i64],
+    q: &Request<'_>,
+    input: &Run<'_>,
     moments: &mut [u64],
-    res: &mut [u64],
-    rd: &mut [i64],
+    results: &mut ResultMemory<'_>,
 ) -> Outcome
-    requires { Answering most_records (runs upper.now newkeys.now newtimes.now pendingkeys.now pendingtimes.now tk.now tv.now tt.now td.now outkeys.now outvalues.now outtimes.now outdiffs.now) width lower.now held.now moments.old res.old rd.old }
-    ensures { Answered (runs upper.now newkeys.now newtimes.now pendingkeys.now pendingtimes.now tk.now tv.now tt.now td.now outkeys.now outvalues.now outtimes.now outdiffs.now) mode width lower.now held.now result res.old res.new rd.old rd.new }
+    requires { Answering most_records (runs_of q.now input.now) q.now.width q.now.frontiers.lower.now q.now.frontiers.held.now moments.old results.old.numbers.now results.old.diffs.now }
+    ensures answered { Answered (runs_of q.now input.now) q.now.mode q.now.width q.now.frontiers.lower.now q.now.frontiers.held.now result results.old.numbers.now results.new.numbers.now results.old.diffs.now results.new.diffs.now }
+    ensures same { SameResults results.old results.new }
 {
-    if !is_few(
-        mode,
-        newkeys.len(),
-        pendingkeys.len(),
-        tk.len(),
-        outkeys.len(),
-    ) {
-        return answer_fully(
-            mode,
-            width,
-            lower,
-            upper,
-            held,
-            newkeys,
-            newtimes,
-            pendingkeys,
-            pendingtimes,
-            tk,
-            tv,
-            tt,
-            td,
-            outkeys,
-            outvalues,
-            outtimes,
-            outdiffs,
-            moments,
-            res,
-            rd,
-        );
-    }
-    let t = answer_briefly(
-        mode,
-        width,
-        lower,
-        upper,
-        held,
-        newkeys,
-        newtimes,
-        pendingkeys,
-        pendingtimes,
-        tk,
-        tv,
-        tt,
-        td,
-        outkeys,
-        outvalues,
-        outtimes,
-        outdiffs,
-        moments,
-        res,
-        rd,
+    let few = is_few(
+        q.mode,
+        q.new.keys.len(),
+        q.pending.keys.len(),
+        input.keys.len(),
+        q.out.keys.len(),
     );
-    if t.fits {
-        return t.outcome;
+    if !few {
+        return answer_fully(q, input, moments, results);
     }
-    answer_fully(
-        mode,
-        width,
-        lower,
-        upper,
-        held,
-        newkeys,
-        newtimes,
-        pendingkeys,
-        pendingtimes,
-        tk,
-        tv,
-        tt,
-        td,
-        outkeys,
-        outvalues,
-        outtimes,
-        outdiffs,
-        moments,
-        res,
-        rd,
-    )
+    match answer_briefly(q, input, moments, results) {
+        Some(outcome) => outcome,
+        None => answer_fully(q, input, moments, results),
+    }
 }

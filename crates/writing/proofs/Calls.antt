@@ -26,11 +26,9 @@ use Rattle.form.specs.Show.{show_answer, show_bad, reply}
 use Rattle.form.proofs.Canon.{request_only}
 use Rattle.form.proofs.Room.{most_text, answer-length, bad_length}
 use Rattle.form.proofs.Answers.{answer_fits, reply_bad, reply-asked}
-use Rattle.writing.specs.declared.Text.{Text}
-use Rattle.writing.specs.declared.Text.TheVariants.{Whole}
 use Rattle.writing.specs.Answered.{standing, frontier_at, sizes_fit, counts_fit, memory_fits, Written}
 use Rattle.writing.proofs.Standing.{results_of, standing_is}
-use Rattle.writing.proofs.Lines.{told_whole}
+use Rattle.std.proofs.Common.{Option, Some}
 
 -- ---- the memory that a call leaves
 leaves-laid : {A : Type 0} (z : A) (status : ℕ) (slice results : List A) → status < 11 → leaves z status slice results ≡ results ++ replicate (length slice - length results) z
@@ -75,17 +73,17 @@ module _ (q : Request) (m : Memory) where
       (by-test (leb 3 (call q).status) (λ e. rw e) (λ e. rw e))
 
 -- ---- the whole text
-pub record Printed (text out out' : List ℕ) (r : Text) : Type 0 where
-  pub told_all : r ≡ Whole (length text)
+pub record Printed (text out out' : List ℕ) (r : Option ℕ) : Type 0 where
+  pub told_all : r ≡ Some (length text)
   pub holds : out' ≡ text ++ drop (length text) out
 
-printed : {text out out' : List ℕ} {r : Text} → length text ≤ length out → Written true text out out' r → Printed text out out' r
+printed : {text out out' : List ℕ} {r : Option ℕ} → length text ≤ length out → Written true text out out' r → Printed text out out' r
 printed {text} {out} h w = record {
-  told_all = w.told_is ∙ sym (told_whole (length text) (length out) h);
+  told_all = w.told_is ∙ (rw (le-leb (length text) (length out) h));
   holds = let z : 0 + length text ≡ length text = omega arith in w.holds ∙ sets-eq text out 0 (omega arith) ∙ ap (λ (k : ℕ). text ++ drop k out) z;
 }
 
-module _ (s : List ℕ) {out out' : List ℕ} {r : Text} (room : most_text ≤ length out) where
+module _ (s : List ℕ) {out out' : List ℕ} {r : Option ℕ} (room : most_text ≤ length out) where
   pub replied_bad : {n : ℕ} → parse s ≡ bad n → Written true (show_bad n) out out' r → Printed (reply s) out out' r
   replied_bad {n} e w = rw (reply_bad s e) (printed (omega (arith, bad_length n)) w)
 

@@ -1,11 +1,12 @@
 -- The lines of an answer, put together from their parts, and one after the other; and the room that they need.
 --
 -- …-parts, …-is: a text is made of these parts, or stands at this place of the memory
--- lines_start, -more, -none: one line for each place. written_fits, written_not: what writing leaves
+-- lines_start, -more, -none: one line for each place. written_fits: what writing leaves
 use Prim.Native.Nat.{ℕ, suc, ◌+◌, ◌-◌, ◌*◌, ◌≤◌, ◌<◌, min}
 use native.Mathlib.Numerals.{add-one}
 use native.Mathlib.Omega.{arith}
 use mathlib.Core.Bool.{Bool, true, false, ◌&&◌}
+use Rattle.std.proofs.Common.{Option, None}
 use mathlib.Core.List.{List, [], ◌∷◌, ◌++◌, map, append_assoc, append-nil}
 use mathlib.Core.Path.{◌≡◌, refl, sym, ◌∙◌, ap}
 use lib.Dec.{leb, ltb}
@@ -20,8 +21,6 @@ use Rattle.form.specs.Show.{decimal, show_time, show_list, show_row, show_pair, 
 use Rattle.print.specs.Put.{Put}
 use Rattle.print.proofs.Put.{put_long, Writing, writing_start}
 use Rattle.writing.specs.declared.Results.{Results}
-use Rattle.writing.specs.declared.Text.{Text}
-use Rattle.writing.specs.declared.Text.TheVariants.{Short, Whole}
 use Rattle.writing.specs.Answered.{places, fix_at, pair_at, bound_at, tile_from, tile_at, frontier_at, standing, the_fix, Fits, sizes_fit, counts_fit, memory_fits, told, Written}
 
 pub pending_parts : (k t : ℕ) → ascii "pend=" ++ show_pair (k, t) ++ (10 ∷ []) ≡ show_line "pend=" (show_pair (k, t))
@@ -104,19 +103,9 @@ bad_parts n = refl
 
 -- ---- room
 module _ (a : Results) (ns ds : ℕ) where
-  pub no_memory_read : 2 < a.status → true ≡ memory_fits a ns ds
-  unfolding memory_fits
-  no_memory_read h = rw (le-leb 3 a.status (omega arith))
-
   memory_read : a.status ≤ 2 → memory_fits a ns ds ≡ (sizes_fit ns ds && counts_fit a)
   unfolding memory_fits
   memory_read h = rw (lt-leb 3 a.status (omega arith))
-
-  pub sizes_do : {r : Bool} → a.status ≤ 2 → sizes_fit ns ds ≡ true → r ≡ counts_fit a → r ≡ memory_fits a ns ds
-  sizes_do h e f = f ∙ sym (memory_read h ∙ (rw e))
-
-  pub sizes_do_not : a.status ≤ 2 → sizes_fit ns ds ≡ false → false ≡ memory_fits a ns ds
-  sizes_do_not h e = sym (memory_read h ∙ (rw e))
 
   pub fits_from : a.status ≤ 2 → memory_fits a ns ds ≡ true → Fits a ns ds
   unfolding sizes_fit counts_fit
@@ -135,31 +124,6 @@ module _ (a : Results) (ns ds : ℕ) where
         frontier_fit = leb-true _ _ (and_r (leb a.pending 4096) _ k₃);
       }
 
-pub no_numbers : (ns ds : ℕ) → ns < 25632 → false ≡ sizes_fit ns ds
-unfolding sizes_fit
-no_numbers ns ds h = rw (lt-leb 25632 ns h)
-
-pub some_numbers : (ns ds : ℕ) → 25632 ≤ ns → leb 4096 ds ≡ sizes_fit ns ds
-unfolding sizes_fit
-some_numbers ns ds h = rw (le-leb 25632 ns h)
-
-module _ (a : Results) where
-  pub too_many-tiles : 16 < a.tiles → false ≡ counts_fit a
-  unfolding counts_fit
-  too_many-tiles h = rw (lt-leb a.tiles 16 h)
-
-  pub too_many-fixes : a.tiles ≤ 16 → 4096 < a.fixes → false ≡ counts_fit a
-  unfolding counts_fit
-  too_many-fixes h k = rw (le-leb a.tiles 16 h, lt-leb a.fixes 4096 k)
-
-  pub too_many_pending : a.tiles ≤ 16 → a.fixes ≤ 4096 → 4096 < a.pending → false ≡ counts_fit a
-  unfolding counts_fit
-  too_many_pending h k l = rw (le-leb a.tiles 16 h, le-leb a.fixes 4096 k, lt-leb a.pending 4096 l)
-
-  pub few_enough : a.tiles ≤ 16 → a.fixes ≤ 4096 → a.pending ≤ 4096 → leb a.frontier 16 ≡ counts_fit a
-  unfolding counts_fit
-  few_enough h k l = rw (le-leb a.tiles 16 h, le-leb a.fixes 4096 k, le-leb a.pending 4096 l)
-
 pub told-put : {xs out out' : List ℕ} {n : ℕ} → Put xs out out' 0 n → told n (length out') ≡ told (length xs) (length out)
 told-put {xs} {out} {out'} {n} p =
     by-test (ltb (length out) (length xs))
@@ -173,14 +137,5 @@ told-put {xs} {out} {out'} {n} p =
     let m : n ≡ length xs = omega arith in
     rw (put_long p, m))
 
-pub written_fits : {fits : Bool} {xs out out' : List ℕ} {n most : ℕ} {r : Text} → fits ≡ true → Put xs out out' 0 n → most ≡ length out' → r ≡ told n most → Written fits xs out out' r
+pub written_fits : {fits : Bool} {xs out out' : List ℕ} {n most : ℕ} {r : Option ℕ} → fits ≡ true → Put xs out out' 0 n → most ≡ length out' → r ≡ told n most → Written fits xs out out' r
 written_fits e p m t = rw e (record { told_is = t ∙ (rw m (told-put p)); holds = p.holds })
-
-pub written_not : {fits : Bool} (xs out : List ℕ) → fits ≡ false → Written fits xs out out Short
-written_not xs out e = rw e (record { told_is = refl; holds = refl })
-
-pub told_whole : (n most : ℕ) → n ≤ most → Whole n ≡ told n most
-told_whole n most h = rw (le-leb n most h)
-
-pub told_short : (n most : ℕ) → most < n → Short ≡ told n most
-told_short n most h = rw (lt-leb n most h)

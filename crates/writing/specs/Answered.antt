@@ -7,7 +7,7 @@
 -- Fits, sizes_fit, counts_fit, memory_fits: a worked answer's memory is long enough, and its counts are no larger than the memory
 -- told n most: the answer to writing n bytes into a slice of most bytes
 -- Written: what writing leaves
-use Rattle.std.specs.Prelude.{ℕ, zero, suc, ◌+◌, ◌*◌, ◌≤◌, min, Bool, cond, ◌&&◌, ◌||◌, List, [], ◌∷◌, map, ◌≡◌, leb, ℤ, pos, length, get_or, take, drop}
+use Rattle.std.specs.Prelude.{ℕ, zero, suc, ◌+◌, ◌*◌, ◌≤◌, min, Bool, cond, ◌&&◌, ◌||◌, Option, Some, None, List, [], ◌∷◌, map, ◌≡◌, leb, ℤ, pos, length, get_or, take, drop}
 use Rattle.std.proofs.lemmas.List.Edits.{sets}
 use Rattle.grid.specs.Frontiers.{most_times}
 use Rattle.grid.specs.Records.{Row, most_records}
@@ -15,8 +15,6 @@ use Rattle.rules.specs.Tiles.{Tile}
 use Rattle.rules.specs.Call.{Fix, Answer}
 use Rattle.rules.specs.Memory.{most_bound, tile_size, numbers_size}
 use Rattle.writing.specs.declared.Results.{Results}
-use Rattle.writing.specs.declared.Text.{Text}
-use Rattle.writing.specs.declared.Text.TheVariants.{Short, Whole}
 
 abbrev pub places : ℕ → ℕ → List ℕ
 places i zero = []
@@ -73,9 +71,9 @@ counts_fit a = leb a.tiles most_times && (leb a.fixes most_records && (leb a.pen
 unfoldable pub memory_fits : Results → ℕ → ℕ → Bool
 memory_fits a ns ds = leb 3 a.status || (sizes_fit ns ds && counts_fit a)
 
-abbrev pub told : ℕ → ℕ → Text
-told n most = cond (leb n most) (Whole n) Short
+abbrev pub told : ℕ → ℕ → Option ℕ
+told n most = cond (leb n most) (Some n) None
 
-pub record Written (fits : Bool) (xs out out' : List ℕ) (r : Text) : Type 0 where
-  pub told_is : r ≡ cond fits (told (length xs) (length out)) Short
+pub record Written (fits : Bool) (xs out out' : List ℕ) (r : Option ℕ) : Type 0 where
+  pub told_is : r ≡ cond fits (told (length xs) (length out)) None
   pub holds : out' ≡ cond fits (sets out 0 xs) out

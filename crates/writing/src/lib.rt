@@ -13,6 +13,32 @@ ghost use Rattle.writing.specs.Answered.{places, fix_at, pair_at, bound_at, tile
 
 use times::{KeyHash, PackedTime, ValueId};
 
+// How long the result memory is, and where its columns begin: the tiles of the corrections, which come first, and then these.
+const NUMBERS_SIZE: usize = 25632;
+
+const MOST_RECORDS: usize = 4096;
+
+const FIX_KEYS: usize = 4096;
+
+const FIX_VALUES: usize = 8192;
+
+const FIX_TIMES: usize = 12288;
+
+const PENDING_KEYS: usize = 16384;
+
+const PENDING_TIMES: usize = 20480;
+
+const TILES: usize = 24576;
+
+const FRONTIER: usize = 25616;
+
+const MOST_TIMES: usize = 16;
+
+// How many numbers a tile takes: two bounds, each of a length and 31 times, and the time at which it is held.
+const TILE_SIZE: usize = 65;
+
+const MOST_BOUND: u64 = 31;
+
 // Status, crossings, and how many tiles, corrections, pending entries and frontier times the result memory holds.
 #[derive(Clone, Copy)]
 pub struct Results {
@@ -24,37 +50,34 @@ pub struct Results {
     pub frontier: usize,
 }
 
-// No room for the text, or no memory of an answer; or how many bytes the whole text has.
-#[derive(Clone, Copy)]
-pub enum Text {
-    Short,
-    Whole(usize),
-}
-
+// A name, a number, a line feed.
 fn put_number_line(out: &mut [u8], at: usize, name: &[u8], n: u64) -> usize
     ensures { Put (name.now ++ decimal n ++ (10 ∷ [])) out.old out.new at result }
 {
     let a = print::put_word(out, at, name);
     let b = print::put_decimal(out, a, n);
-    print::put_mark(out, b, 10)
+    print::put_mark(out, b, b'\n')
 }
 
+// A name, a list of times, a line feed.
 fn put_list_line(out: &mut [u8], at: usize, name: &[u8], ts: &[u64]) -> usize
     ensures { Put (name.now ++ show_list ts.now ++ (10 ∷ [])) out.old out.new at result }
 {
     let a = print::put_word(out, at, name);
     let b = print::put_list(out, a, ts);
-    print::put_mark(out, b, 10)
+    print::put_mark(out, b, b'\n')
 }
 
+// A pending entry.
 fn put_pending_line(out: &mut [u8], at: usize, key: KeyHash, time: PackedTime) -> usize
     ensures { Put (show_line "pend=" (show_pair (key.0, time.0))) out.old out.new at result }
 {
     let a = print::put_word(out, at, b"pend=");
     let b = print::put_pair(out, a, key, time);
-    print::put_mark(out, b, 10)
+    print::put_mark(out, b, b'\n')
 }
 
+// A correction: the place of its tile, and a record.
 fn put_fix_line(
     out: &mut [u8],
     at: usize,
@@ -68,18 +91,9 @@ fn put_fix_line(
 {
     let a = print::put_word(out, at, b"fix=");
     let b = print::put_decimal(out, a, tile);
-    let e = print::put_mark(out, b, 44);
+    let e = print::put_mark(out, b, b',');
     let f = print::put_row(out, e, key, value, time, diff);
-    print::put_mark(out, f, 10)
-}
-
-fn smaller(a: u64, b: usize) -> usize
-    ensures { result ≡ min a b }
-{
-    if a < b as u64 {
-        return a as usize;
-    }
-    b
+    print::put_mark(out, f, b'\n')
 }
 
 // A bound of a tile, with its length before it.
@@ -87,98 +101,96 @@ fn put_bound(out: &mut [u8], at: usize, numbers: &[u64], from: usize) -> usize
     requires { from + 32 ≤ length numbers.now }
     ensures { Put (show_list (bound_at numbers.now from)) out.old out.new at result }
 {
-    let n = smaller(numbers[from], 31);
+    let n = numbers[from].min(MOST_BOUND) as usize;
     let first = from + 1;
-    let end = from + 1 + n;
-    print::put_list(out, at, &numbers[first..end])
+    print::put_list(out, at, &numbers[first..first + n])
 }
 
+// Both bounds of a tile, and the time at which it is held.
 fn put_tile(out: &mut [u8], at: usize, numbers: &[u64], from: usize) -> usize
     requires { from + 65 ≤ length numbers.now }
     ensures { Put (show_tile (tile_from numbers.now from)) out.old out.new at result }
 {
     let a = put_bound(out, at, numbers, from);
-    let b = print::put_mark(out, a, 47);
+    let b = print::put_mark(out, a, b'/');
     let e = put_bound(out, b, numbers, from + 32);
-    let f = print::put_mark(out, e, 47);
+    let f = print::put_mark(out, e, b'/');
     print::put_time(out, f, PackedTime(numbers[from + 64]))
 }
 
+// A tile.
 fn put_tile_line(out: &mut [u8], at: usize, numbers: &[u64], from: usize) -> usize
     requires { from + 65 ≤ length numbers.now }
     ensures { Put (show_line "tile=" (show_tile (tile_from numbers.now from))) out.old out.new at result }
 {
     let a = print::put_word(out, at, b"tile=");
     let b = put_tile(out, a, numbers, from);
-    print::put_mark(out, b, 10)
+    print::put_mark(out, b, b'\n')
 }
 
+// The first n tiles.
 fn put_tiles(out: &mut [u8], from: usize, numbers: &[u64], n: usize) -> usize
-    requires n_le_most_times { n ≤ most_times }
-    requires numbers_size_in_bounds { numbers_size ≤ length numbers.now }
+    requires few { n ≤ most_times }
+    requires room_numbers { numbers_size ≤ length numbers.now }
     ensures { Put (flat (λ t. show_line "tile=" (show_tile t)) (map (tile_at numbers.now) (places 0 n))) out.old out.new from result }
 {
     let mut at = from;
-    let mut i: usize = 0;
-    while i < n {
-        at = put_tile_line(out, at, numbers, 24576 + 65 * i);
-        i += 1;
+    for i in 0..n {
+        at = put_tile_line(out, at, numbers, TILES + TILE_SIZE * i);
     }
     at
 }
 
+// The first n corrections.
 fn put_fixes(out: &mut [u8], from: usize, numbers: &[u64], diffs: &[i64], n: usize) -> usize
-    requires n_le_most_records { n ≤ most_records }
-    requires numbers_size_in_bounds { numbers_size ≤ length numbers.now }
-    requires most_records_in_bounds { most_records ≤ length diffs.now }
+    requires few { n ≤ most_records }
+    requires room_numbers { numbers_size ≤ length numbers.now }
+    requires room_diffs { most_records ≤ length diffs.now }
     ensures { Put (flat (λ f. show_line "fix=" (show_fix f)) (map (fix_at numbers.now diffs.now) (places 0 n))) out.old out.new from result }
 {
     let mut at = from;
-    let mut i: usize = 0;
-    while i < n {
+    for i in 0..n {
         at = put_fix_line(
             out,
             at,
             numbers[i],
-            KeyHash(numbers[4096 + i]),
-            ValueId(numbers[8192 + i]),
-            PackedTime(numbers[12288 + i]),
+            KeyHash(numbers[FIX_KEYS + i]),
+            ValueId(numbers[FIX_VALUES + i]),
+            PackedTime(numbers[FIX_TIMES + i]),
             diffs[i],
         );
-        i += 1;
     }
     at
 }
 
+// The first n pending entries.
 fn put_pending(out: &mut [u8], from: usize, numbers: &[u64], n: usize) -> usize
-    requires n_le_most_records { n ≤ most_records }
-    requires numbers_size_in_bounds { numbers_size ≤ length numbers.now }
+    requires few { n ≤ most_records }
+    requires room_numbers { numbers_size ≤ length numbers.now }
     ensures { Put (flat (λ p. show_line "pend=" (show_pair p)) (map (pair_at numbers.now) (places 0 n))) out.old out.new from result }
 {
     let mut at = from;
-    let mut i: usize = 0;
-    while i < n {
+    for i in 0..n {
         at = put_pending_line(
             out,
             at,
-            KeyHash(numbers[16384 + i]),
-            PackedTime(numbers[20480 + i]),
+            KeyHash(numbers[PENDING_KEYS + i]),
+            PackedTime(numbers[PENDING_TIMES + i]),
         );
-        i += 1;
     }
     at
 }
 
+// The first n times of the frontier.
 fn put_frontier(out: &mut [u8], at: usize, numbers: &[u64], n: usize) -> usize
-    requires n_le_most_times { n ≤ most_times }
-    requires numbers_size_in_bounds { numbers_size ≤ length numbers.now }
+    requires few { n ≤ most_times }
+    requires room_numbers { numbers_size ≤ length numbers.now }
     ensures { Put (show_line "frontier=" (show_list (frontier_at numbers.now n))) out.old out.new at result }
 {
-    let first = 25616;
-    let end = 25616 + n;
-    put_list_line(out, at, b"frontier=", &numbers[first..end])
+    put_list_line(out, at, b"frontier=", &numbers[FRONTIER..FRONTIER + n])
 }
 
+// All that a worked answer has after its status.
 fn put_results(out: &mut [u8], at: usize, numbers: &[u64], diffs: &[i64], a: Results) -> usize
     requires { Fits a (length numbers.now) (length diffs.now) }
     ensures { Put (show_results (standing a numbers.now diffs.now)) out.old out.new at result }
@@ -190,76 +202,68 @@ fn put_results(out: &mut [u8], at: usize, numbers: &[u64], diffs: &[i64], a: Res
     put_frontier(out, g, numbers, a.frontier)
 }
 
+// Whether so many entries are a result memory.
+#[tactic(auto, unfolding(crate::specs::Answered::sizes_fit))]
 fn sizes_fit(numbers: usize, diffs: usize) -> bool
     ensures { result ≡ sizes_fit numbers diffs }
 {
-    if numbers < 25632 {
-        return false;
-    }
-    4096 <= diffs
+    NUMBERS_SIZE <= numbers && MOST_RECORDS <= diffs
 }
 
+// Whether the counts are no larger than the result memory.
+#[tactic(auto, unfolding(crate::specs::Answered::counts_fit))]
 fn counts_fit(a: Results) -> bool
     ensures { result ≡ counts_fit a }
 {
-    if 16 < a.tiles {
-        return false;
-    }
-    if 4096 < a.fixes {
-        return false;
-    }
-    if 4096 < a.pending {
-        return false;
-    }
-    a.frontier <= 16
+    a.tiles <= MOST_TIMES
+        && a.fixes <= MOST_RECORDS
+        && a.pending <= MOST_RECORDS
+        && a.frontier <= MOST_TIMES
 }
 
 // Only an answer with status 0 to 2 reads the memory.
+#[tactic(auto, unfolding(crate::specs::Answered::memory_fits))]
 fn memory_fits(a: Results, numbers: usize, diffs: usize) -> bool
     ensures { result ≡ memory_fits a numbers diffs }
 {
-    if 2 < a.status {
-        return true;
-    }
-    if sizes_fit(numbers, diffs) {
-        return counts_fit(a);
-    }
-    false
+    a.status > 2 || sizes_fit(numbers, diffs) && counts_fit(a)
 }
 
+// The whole text.
 fn put_answer(out: &mut [u8], numbers: &[u64], diffs: &[i64], a: Results) -> usize
     requires { memory_fits a (length numbers.now) (length diffs.now) ≡ true }
     ensures { Put (show_answer (standing a numbers.now diffs.now)) out.old out.new 0 result }
 {
     let k = put_number_line(out, 0, b"status=", a.status);
-    if 2 < a.status {
-        return print::put_word(out, k, b"end=\n");
+    if a.status > 2 {
+        print::put_word(out, k, b"end=\n")
+    } else {
+        let m = put_results(out, k, numbers, diffs, a);
+        print::put_word(out, m, b"end=\n")
     }
-    let m = put_results(out, k, numbers, diffs, a);
-    print::put_word(out, m, b"end=\n")
 }
 
-fn text_of(n: usize, most: usize) -> Text
+// How many bytes the text has, if it has room.
+fn text_of(n: usize, most: usize) -> Option<usize>
     ensures { result ≡ told n most }
 {
-    if n <= most {
-        return Text::Whole(n);
-    }
-    Text::Short
+    if n <= most { Some(n) } else { None }
 }
 
-// The text of the answer that stands in the result memory. If it has no room, its front part is written; if the memory is none of an
-// answer, nothing.
-pub fn write_answer(out: &mut [u8], numbers: &[u64], diffs: &[i64], a: Results) -> Text
+// The text of the answer that stands in the result memory: how many bytes it has. If it has no room, its front part is written; if the memory is
+// none of an answer, nothing.
+pub fn write_answer(out: &mut [u8], numbers: &[u64], diffs: &[i64], a: Results) -> Option<usize>
     ensures { Written (memory_fits a (length numbers.now) (length diffs.now)) (show_answer (standing a numbers.now diffs.now)) out.old out.new result }
 {
     if memory_fits(a, numbers.len(), diffs.len()) {
         let n = put_answer(out, numbers, diffs, a);
-        return text_of(n, out.len());
+        text_of(n, out.len())
+    } else {
+        None
     }
-    Text::Short
 }
 
+// The text of a bad line's number, without a test of the room.
 fn put_bad(out: &mut [u8], line: u64) -> usize
     ensures { Put (show_bad line) out.old out.new 0 result }
 {
@@ -268,8 +272,8 @@ fn put_bad(out: &mut [u8], line: u64) -> usize
     print::put_word(out, b, b"end=\n")
 }
 
-// The text of a bad line's number. If it has no room, its front part is written.
-pub fn write_bad(out: &mut [u8], line: u64) -> Text
+// The text of a bad line's number: how many bytes it has. If it has no room, its front part is written.
+pub fn write_bad(out: &mut [u8], line: u64) -> Option<usize>
     ensures { Written true (show_bad line) out.old out.new result }
 {
     let n = put_bad(out, line);

@@ -1,10 +1,8 @@
-use Rattle.answering.proofs.Replying.{bad-replied, asked-replied}
+use Rattle.answering.proofs.Replying.{bad-replied, held-replied}
 use Rattle.answering.proofs.reply_to.Goals as goal
 
--- src/lib.rt:187:1
-pub returns-in-Bad : goal.returns-in-Bad
-returns-in-Bad c = bad-replied c.requires c.in-Bad.is c.write_bad.ensures c.bytes_of.ensures
+pub returns-in-Err : goal.returns-in-Err
+returns-in-Err c = bad-replied c.requires c.in-Err.is c.write_bad.ensures c.unwrap_or.ensures
 
--- src/lib.rt:187:1
-pub returns-in-Asked : goal.returns-in-Asked
-returns-in-Asked c = asked-replied c.in-Asked.is c.ask.ensures
+pub returns-in-Ok : goal.returns-in-Ok
+returns-in-Ok c = held-replied c.front_lists.result c.in-Ok.is c.front_lists.ensures c.call.ensures

@@ -1,8 +1,10 @@
-use Rattle.grid.proofs.Signed.{range_negative, range_other}
+use Rattle.std.proofs.Common.{ap, ◌∙◌}
+use lib.Dec.{leb}
+use lib.IntN.{nat_abs}
+use mir.Facts.{to_z-of_z}
+use Rattle.grid.specs.Records.{in_range}
 use Rattle.diffs.proofs.is_in_range.Goals as goal
 
-pub returns-then-d-lt0 : goal.returns-then-d-lt0
-returns-then-d-lt0 c = range_negative c.ranges.d c.if-d-lt0.true
-
 pub returns : goal.returns
-returns c = range_other c.ranges.d c.if-d-lt0.false
+unfolding in_range
+returns c = ap (λ n. leb n 2147483648) (c.unsigned_abs.ensures.value ∙ ap nat_abs (to_z-of_z c.ranges.d))

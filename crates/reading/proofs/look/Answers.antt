@@ -1,42 +1,22 @@
+use Rattle.std.proofs.lemmas.Result.{err_from_is_err_and}
 use Rattle.reading.proofs.Wholes.{parse_long, head_bad, finish_bad, looked_bad, looked_good}
 use Rattle.reading.proofs.look.Goals as goal
 
--- src/lib.rt:217:9
-pub returns-then-s-gt65536 : goal.returns-then-s-gt65536
-returns-then-s-gt65536 c = looked_bad 0 (parse_long _ c.if-s-gt65536.true) c.refused.ensures
+pub returns-then-s-gt-MOST_BYTES : goal.returns-then-s-gt-MOST_BYTES
+returns-then-s-gt-MOST_BYTES c = looked_bad 0 (parse_long _ c.if-s-gt-MOST_BYTES.true)
 
--- src/lib.rt:210:1
-pub returns-in-BadHead : goal.returns-in-BadHead
-returns-in-BadHead c = looked_bad _ (head_bad c.args.s.now c.read_head.new.lower c.read_head.new.upper c.read_head.new.held c.read_head.result c.if-s-gt65536.false c.read_head.ensures.told c.in-BadHead.is) c.refused-in-BadHead.ensures
+pub returns-in_err-head : goal.returns-in_err-head
+returns-in_err-head c =
+    let p = err_from_is_err_and c.from_residual.result c.from_residual.ensures.1 in
+    rw (p.1, p.2) (looked_bad _ (head_bad c.args.s.now c.if-s-gt-MOST_BYTES.false c.in_err-head.ensures.told))
 
--- src/lib.rt:210:1
-pub shape_of-lower-in-BadEnd : goal.shape_of-lower-in-BadEnd
-shape_of-lower-in-BadEnd c = c.lower-1.given
+pub returns-in_err-read_end : goal.returns-in_err-read_end
+returns-in_err-read_end c =
+    let h = c.in_ok-head.head in
+    let p = err_from_is_err_and c.from_residual-in_err-read_end.result c.from_residual-in_err-read_end.ensures.1 in
+    rw (p.1, p.2) (looked_bad _ (finish_bad c.args.s.now c.read_head.new.lower c.read_head.new.upper c.read_head.new.held h.mode h.width h.lower h.upper h.held c.in_ok-head.at c.if-s-gt-MOST_BYTES.false c.in_ok-head.ensures.told c.find_sections-lines.ensures c.line_after.ensures c.in_err-read_end.ensures))
 
--- src/lib.rt:210:1
-pub shape_of-upper-in-BadEnd : goal.shape_of-upper-in-BadEnd
-shape_of-upper-in-BadEnd c = c.upper-1.given
-
--- src/lib.rt:210:1
-pub shape_of-held-in-BadEnd : goal.shape_of-held-in-BadEnd
-shape_of-held-in-BadEnd c = c.held-1.given
-
--- src/lib.rt:210:1
-pub returns-in-BadEnd : goal.returns-in-BadEnd
-returns-in-BadEnd c = looked_bad _ (finish_bad c.args.s.now c.read_head.new.lower c.read_head.new.upper c.read_head.new.held c.read_head.result c.if-s-gt65536.false c.read_head.ensures.told c.in-Head.is c.find_sections-x.ensures c.read_end.result c.line_after.ensures c.read_end.ensures c.in-BadEnd.is) c.refused-in-BadEnd.ensures
-
--- src/lib.rt:210:1
-pub shape_of-lower-in-End : goal.shape_of-lower-in-End
-shape_of-lower-in-End c = c.lower-1.given
-
--- src/lib.rt:210:1
-pub shape_of-upper-in-End : goal.shape_of-upper-in-End
-shape_of-upper-in-End c = c.upper-1.given
-
--- src/lib.rt:210:1
-pub shape_of-held-in-End : goal.shape_of-held-in-End
-shape_of-held-in-End c = c.held-1.given
-
--- src/lib.rt:210:1
-pub returns-in-End : goal.returns-in-End
-returns-in-End c = looked_good c.args.s.now c.read_head.new.lower c.read_head.new.upper c.read_head.new.held c.read_head.result c.if-s-gt65536.false c.read_head.ensures.told c.in-Head.is c.find_sections-x.ensures c.read_end.result c.line_after.ensures c.read_end.ensures c.read_head.ensures.few c.args.lower.now c.args.upper.now c.args.held.now c.requires.in_bounds c.requires.in_bounds_2 c.requires.in_bounds_3 c.lower-1.given c.upper-1.given c.held-1.given c.in-End.is
+pub returns : goal.returns
+returns c =
+    let h = c.in_ok-head.head in
+    looked_good c.args.s.now c.read_head.new.lower c.read_head.new.upper c.read_head.new.held h.mode h.width h.lower h.upper h.held c.in_ok-head.at c.if-s-gt-MOST_BYTES.false c.in_ok-head.ensures.told c.find_sections-lines.ensures c.line_after.ensures c.in_ok-read_end.ensures c.in_ok-head.ensures.few c.args.lower.now c.args.upper.now c.args.held.now c.requires.room_lower c.requires.room_upper c.requires.room_held c.read_head.auto.lower c.read_head.auto.upper c.read_head.auto.held

@@ -1,27 +1,15 @@
-use Rattle.scan.proofs.Numbers.{counting_start, counting_stop, counting_over, counting_more, counting_end, digit_yes, digit_low, digit_high}
-use native.Mathlib.Omega.{arith}
+use Rattle.std.proofs.Common.{arith, sym, ◌∙◌, rules}
+use Rattle.scan.proofs.Numbers.{counting_stop, counting_over, counting_more, counting_end}
 use Rattle.scan.proofs.digits_up_to.Goals as goal
 
--- src/lib.rt:64:5
-pub loop-at-init : goal.loop-at-init
-loop-at-init c = counting_start _ _ _
+pub returns-then-not-is_ascii_digit : goal.returns-then-not-is_ascii_digit
+returns-then-not-is_ascii_digit c = record { told = counting_stop c.loop-i.invariant (omega arith) (sym c.is_ascii_digit.ensures.value ∙ c.if-not-is_ascii_digit.true); small = c.loop-i.invariant.small; inside = omega arith }
 
--- src/lib.rt:67:13
-pub returns-then-b-lt48 : goal.returns-then-b-lt48
-returns-then-b-lt48 c = counting_stop c.loop-at.invariant (omega arith) c.wide-b.ensures (digit_low _ c.if-b-lt48.true)
+pub returns-then-most-digit : goal.returns-then-most-digit
+returns-then-most-digit c = record { told = counting_over c.loop-i.invariant (omega arith) _ (sym c.is_ascii_digit.ensures.value ∙ c.if-not-is_ascii_digit.false) c.from-digit.ensures c.requires c.if-most-digit.true; small = search rules; inside = search rules }
 
--- src/lib.rt:70:13
-pub returns-then-b-gt57 : goal.returns-then-b-gt57
-returns-then-b-gt57 c = counting_stop c.loop-at.invariant (omega arith) c.wide-b.ensures (digit_high _ c.if-b-gt57.true)
+pub loop-i-preserved : goal.loop-i-preserved
+loop-i-preserved c = counting_more c.loop-i.invariant (omega arith) _ (sym c.is_ascii_digit.ensures.value ∙ c.if-not-is_ascii_digit.false) c.from-digit.ensures c.requires c.if-most-digit.false
 
--- src/lib.rt:74:13
-pub returns-then-most-d : goal.returns-then-most-d
-returns-then-most-d c = counting_over c.loop-at.invariant (omega arith) c.wide-b.ensures (digit_yes c.wide-b.result (omega arith) (omega arith)) (omega arith)
-
--- src/lib.rt:64:5
-pub loop-at-preserved : goal.loop-at-preserved
-loop-at-preserved c = counting_more c.loop-at.invariant (omega arith) c.wide-b.ensures (digit_yes c.wide-b.result (omega arith) (omega arith)) (omega arith)
-
--- src/lib.rt:58:1
 pub returns : goal.returns
-returns c = counting_end c.loop-at.invariant c.loop-at-test.false
+returns c = record { told = counting_end c.loop-i.invariant (omega arith) (omega arith); small = c.loop-i.invariant.small; inside = omega arith }

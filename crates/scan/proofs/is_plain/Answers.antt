@@ -1,17 +1,12 @@
-use Rattle.scan.proofs.Numbers.{inside_is, plain-at-zero, plain-at_other}
-use native.Mathlib.Omega.{arith}
-use lib.ListN.{length}
-use Prim.Native.Nat.{◌<◌}
+use Rattle.std.proofs.Common.{arith, length, ◌-◌}
+use Rattle.scan.proofs.Numbers.{plain_zero, plain_other, plain_none}
 use Rattle.scan.proofs.is_plain.Goals as goal
 
--- src/lib.rt:52:37
-pub overflow_add-at : goal.overflow_add-at
-overflow_add-at c = let h : c.args.at < length c.args.s.now = inside_is c.args.s.now c.args.at c.byte_at-b.ensures (omega arith) in omega arith
+pub returns-in-48 : goal.returns-in-48
+returns-in-48 c = plain_zero c.args.s.now (length c.args.s.now - 1) (omega arith) (omega arith) (omega arith) c.starts_with_digit.ensures
 
--- src/lib.rt:52:9
-pub returns-then-b-eq48 : goal.returns-then-b-eq48
-returns-then-b-eq48 c = plain-at-zero c.args.s.now c.args.at c.byte_at-b.ensures c.if-b-eq48.true c.byte_at.ensures c.is_digit.ensures
+pub returns-in-len1-up : goal.returns-in-len1-up
+returns-in-len1-up c = rw c.is_ascii_digit.ensures.value (plain_other c.args.s.now (omega arith) (λ e. omega arith))
 
--- src/lib.rt:47:1
-pub returns : goal.returns
-returns c = plain-at_other c.args.s.now c.args.at c.byte_at-b.ensures c.if-b-eq48.false c.is_digit-2.ensures
+pub returns-in-empty : goal.returns-in-empty
+returns-in-empty c = plain_none c.args.s.now (omega arith)

@@ -1,12 +1,5 @@
-use Prim.Native.Nat.{◌-◌}
-use mathlib.Core.List.{◌++◌, map}
-use mathlib.Core.Path.{◌≡◌}
-use lib.ListN.{length, take, drop}
-use Rattle.slices.specs.Places.{entry}
+use Rattle.std.proofs.Common.{◌≡◌, ◌++◌, map, take, drop, get_or}
 use Rattle.slices.proofs.gather.Given as goal
 
 abbrev pub invariant-loop-i : goal.invariant-loop-i
-invariant-loop-i l = (take l.i l.dst ++ map (entry l.src) (drop l.i l.places) ≡ map (entry l.src) l.places) × (length l.dst ≡ length l.places)
-
-abbrev pub decreases-loop-i : goal.decreases-loop-i
-decreases-loop-i l = length l.places - l.i
+invariant-loop-i g l = take l.i l.dst ++ map (λ place. get_or l.src place g.T.Entry.ZERO) (drop l.i l.places) ≡ map (λ place. get_or l.src place g.T.Entry.ZERO) l.places

@@ -8,6 +8,3 @@ use Rattle.writing.proofs.put_fixes.Given as goal
 
 abbrev pub invariant-loop-i : goal.invariant-loop-i
 invariant-loop-i l = Writing (flat (λ f. show_line "fix=" (show_fix f)) (map (fix_at l.numbers l.diffs) (places 0 l.n))) l.initial.out l.from l.out l.at (flat (λ f. show_line "fix=" (show_fix f)) (map (fix_at l.numbers l.diffs) (places l.i (l.n - l.i))))
-
-abbrev pub decreases-loop-i : goal.decreases-loop-i
-decreases-loop-i l = l.n - l.i

@@ -1,6 +1,5 @@
 use Rattle.print.proofs.Put.{put-append}
 use Rattle.writing.proofs.put_list_line.Goals as goal
 
--- src/lib.rt:39:1
 pub returns : goal.returns
 returns c = put-append (put-append c.put_word-a.ensures c.put_list-b.ensures) c.put_mark.ensures

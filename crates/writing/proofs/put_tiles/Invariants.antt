@@ -8,6 +8,3 @@ use Rattle.writing.proofs.put_tiles.Given as goal
 
 abbrev pub invariant-loop-i : goal.invariant-loop-i
 invariant-loop-i l = Writing (flat (λ t. show_line "tile=" (show_tile t)) (map (tile_at l.numbers) (places 0 l.n))) l.initial.out l.from l.out l.at (flat (λ t. show_line "tile=" (show_tile t)) (map (tile_at l.numbers) (places l.i (l.n - l.i))))
-
-abbrev pub decreases-loop-i : goal.decreases-loop-i
-decreases-loop-i l = l.n - l.i

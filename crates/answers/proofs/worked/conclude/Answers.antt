@@ -1,28 +1,27 @@
-use mathlib.Core.Path.{refl}
-use native.Mathlib.Omega.{arith}
-use Rattle.answers.proofs.Telling.{says_over, pended_within, says_many, says_large, ready, says_worked}
+use Rattle.std.proofs.Common.{arith, refl, sym}
+use lib.Seq.{length-take-le}
+use Rattle.answers.proofs.Telling.{says_over, says_many, frontier_fits, says_large, ready, says_worked}
 use Rattle.answers.proofs.worked.conclude.Goals as goal
 
--- src/worked.rt:86:9
-pub returns-then-c : goal.returns-then-c
-returns-then-c c = says_over c.requires c.if-c.true c.say_nothing.ensures
+pub returns-then-c-clause-tells : goal.returns-then-c-clause-tells
+returns-then-c-clause-tells c = says_over c.requires c.if-c.true c.say_nothing.ensures.tells
 
--- src/worked.rt:90:27
-pub slice_bounds-next_frontier-end : goal.slice_bounds-next_frontier-end
-slice_bounds-next_frontier-end c = pended_within c.requires c.if-c.false
+pub returns-in_default-clause-tells : goal.returns-in_default-clause-tells
+returns-in_default-clause-tells c = says_many c.requires c.if-c.false _ refl c.minimal_times.ensures c.in_default.is c.say_nothing-in_default.ensures.tells
 
--- src/worked.rt:92:9
-pub returns-then-f-gt-MOST_TIMES : goal.returns-then-f-gt-MOST_TIMES
-returns-then-f-gt-MOST_TIMES c = says_many c.requires c.if-c.false refl c.next_frontier-f.ensures (omega arith) c.say_nothing-then-f-gt-MOST_TIMES.ensures
+pub returns-then-c-2-clause-tells : goal.returns-then-c-2-clause-tells
+returns-then-c-2-clause-tells c = says_large c.requires c.if-c.false _ refl c.minimal_times.ensures c.in-Some.is c.if-c-2.true c.say_nothing-then-c-2.ensures.tells
 
--- src/worked.rt:95:9
-pub returns-then-c-2 : goal.returns-then-c-2
-returns-then-c-2 c = says_large c.requires c.if-c.false refl c.next_frontier-f.ensures (omega arith) c.if-c-2.true c.say_nothing-then-c-2.ensures
+pub slice_bounds-frontier-end : goal.slice_bounds-frontier-end
+slice_bounds-frontier-end c = let k = frontier_fits c.requires c.if-c.false _ refl c.minimal_times.ensures c.in-Some.is in omega (arith, k, c.minimal_times.auto.out)
 
--- src/worked.rt:97:5
+pub slice_bounds-say_worked-end : goal.slice_bounds-say_worked-end
+slice_bounds-say_worked-end c =
+    let k = frontier_fits c.requires c.if-c.false _ refl c.minimal_times.ensures c.in-Some.is in
+    sym (length-take-le _ _ (omega (arith, k, c.minimal_times.auto.out)))
+
 pub say_worked-requires : goal.say_worked-requires
-say_worked-requires c = ready c.requires c.if-c.false refl c.next_frontier-f.ensures (omega arith) c.if-c-2.false
+say_worked-requires c = ready c.requires c.if-c.false _ refl c.minimal_times.ensures c.in-Some.is c.if-c-2.false
 
--- src/worked.rt:65:1
-pub returns : goal.returns
-returns c = says_worked c.requires c.if-c.false refl c.next_frontier-f.ensures (omega arith) c.if-c-2.false c.say_worked.ensures
+pub returns-clause-tells : goal.returns-clause-tells
+returns-clause-tells c = says_worked c.requires c.if-c.false _ refl c.minimal_times.ensures c.in-Some.is c.if-c-2.false c.say_worked.ensures.tells

@@ -6,6 +6,3 @@ use Rattle.checks.proofs.lengths.is_room.Given as goal
 
 abbrev pub invariant-loop-i : goal.invariant-loop-i
 invariant-loop-i l = room_for (drop l.i l.sizes) (drop l.i l.lengths) ≡ room_for l.sizes l.lengths
-
-abbrev pub decreases-loop-i : goal.decreases-loop-i
-decreases-loop-i l = length l.sizes - l.i

@@ -9,6 +9,6 @@ pub returns-then-a-x : goal.returns-then-a-x
 unfolding rank_before
 returns-then-a-x c = c.pair_before.ensures ∙ lex-same (lex ltb ltb) c.args.a c.args.x (c.args.b, c.args.c) (c.args.y, c.args.z) c.if-a-x.true
 
-pub returns : goal.returns
+pub returns-else-a-x : goal.returns-else-a-x
 unfolding rank_before
-returns c = lex-first (lex ltb ltb) c.args.a c.args.x (c.args.b, c.args.c) (c.args.y, c.args.z) c.if-a-x.false
+returns-else-a-x c = lex-first (lex ltb ltb) c.args.a c.args.x (c.args.b, c.args.c) (c.args.y, c.args.z) c.if-a-x.false

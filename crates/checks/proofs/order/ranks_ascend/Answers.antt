@@ -1,22 +1,21 @@
-use borrow.Author.Rules.{rules}
-use borrow.Author.Tests.{not-true, not-false}
-use native.Mathlib.Omega.{arith}
-use mathlib.Core.Path.{refl, sym, ◌∙◌}
+use Rattle.std.proofs.Common.{arith, ◌≡◌, ◌+◌, ◌-◌, ◌≤◌, ◌<◌, refl, sym, ◌∙◌, length}
 use Rattle.grid.specs.Records.{rank_before}
 use Rattle.checks.proofs.Ascending.{ranks_hit, ranks_miss, ranks_end}
 use Rattle.checks.proofs.order.ranks_ascend.Goals as goal
 
-pub loop-i-init : goal.loop-i-init
-loop-i-init c = (omega arith, refl)
+pub loop-j-init : goal.loop-j-init
+loop-j-init c = (omega arith, refl)
 
 pub returns-then-not-rank_before : goal.returns-then-not-rank_before
 returns-then-not-rank_before c =
-    ranks_hit rank_before c.args.ks.now c.args.vs.now c.args.ts.now c.loop-i.i c.requires (omega (arith, c.loop-i-test.true)) c.loop-i.invariant.1 (sym c.rank_before.ensures ∙ not-true _ c.if-not-rank_before.true-raw)
+    let back : c.loop-j.j - 1 + 1 ≡ c.loop-j.j = omega (arith, c.loop-j.invariant.0) in
+    ranks_hit rank_before c.args.ks.now c.args.vs.now c.args.ts.now (c.loop-j.j - 1) c.requires (rw back c.loop-j-test.true) c.loop-j.invariant.1 (rw back (sym c.rank_before.ensures ∙ c.if-not-rank_before.true))
 
-pub loop-i-preserved : goal.loop-i-preserved
-loop-i-preserved c =
-    (search rules, ranks_miss rank_before c.args.ks.now c.args.vs.now c.args.ts.now c.loop-i.i c.requires (omega (arith, c.loop-i-test.true)) c.loop-i.invariant.1 (sym c.rank_before.ensures ∙ not-false _ c.if-not-rank_before.false-raw))
+pub loop-j-preserved : goal.loop-j-preserved
+loop-j-preserved c =
+    let back : c.loop-j.j - 1 + 1 ≡ c.loop-j.j = omega (arith, c.loop-j.invariant.0) in
+    let on : c.loop-j.j + 1 - 1 ≡ c.loop-j.j = omega arith in
+    (omega arith, rw on (rw back at (ranks_miss rank_before c.args.ks.now c.args.vs.now c.args.ts.now (c.loop-j.j - 1) c.requires (rw back c.loop-j-test.true) c.loop-j.invariant.1 (rw back (sym c.rank_before.ensures ∙ c.if-not-rank_before.false)))))
 
 pub returns : goal.returns
-returns c =
-    ranks_end rank_before c.args.ks.now c.args.vs.now c.args.ts.now c.loop-i.i c.requires (omega (arith, c.loop-i-test.false)) c.loop-i.invariant.1
+returns c = ranks_end rank_before c.args.ks.now c.args.vs.now c.args.ts.now (c.loop-j.j - 1) c.requires (omega (arith, c.loop-j-test.false)) c.loop-j.invariant.1

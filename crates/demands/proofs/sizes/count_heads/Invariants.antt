@@ -6,6 +6,3 @@ use Rattle.demands.proofs.sizes.count_heads.Given as goal
 
 abbrev pub invariant-loop-i : goal.invariant-loop-i
 invariant-loop-i l = (l.n + heads (drop l.i l.keys) ≡ heads l.keys) × (l.n ≤ l.i) × (l.i ≤ length l.keys)
-
-abbrev pub decreases-loop-i : goal.decreases-loop-i
-decreases-loop-i l = length l.keys - l.i

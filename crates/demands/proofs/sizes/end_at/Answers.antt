@@ -8,5 +8,5 @@ returns-then-i-keys c = (head_last c.args.keys.now c.args.i (omega arith), omega
 pub returns-then-keys-i : goal.returns-then-keys-i
 returns-then-keys-i c = (head_same c.args.keys.now c.args.i (omega arith) (omega arith), omega arith)
 
-pub returns : goal.returns
-returns c = (head_other c.args.keys.now c.args.i (omega arith) (omega arith), omega arith)
+pub returns-else-keys-i : goal.returns-else-keys-i
+returns-else-keys-i c = (head_other c.args.keys.now c.args.i (omega arith) (omega arith), omega arith)

@@ -7,10 +7,6 @@ use Rattle.demands.proofs.sizes.moments_needed.Goals as goal
 pub overflow_add-count_heads : goal.overflow_add-count_heads
 overflow_add-count_heads c = record { fits = omega (arith, c.count_heads.ensures, c.count_heads-2.ensures, heads_long c.args.newkeys.now, heads_long c.args.pendingkeys.now) }
 
-pub returns-then-m-n : goal.returns-then-m-n
-unfolding moments_needed
-returns-then-m-n c = search rules
-
 pub returns : goal.returns
 unfolding moments_needed
 returns c = search rules

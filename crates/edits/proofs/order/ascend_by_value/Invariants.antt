@@ -1,13 +1,8 @@
-use Rattle.edits.specs.Edits.{edits, key_of}
+use mathlib.Core.List.{map}
 use Rattle.histories.proofs.Sweeps.{Climbs}
 use Rattle.rules.specs.Histories.{by_value}
-use lib.ListN.{length}
-use Prim.Native.Nat.{◌-◌}
-use mathlib.Core.List.{map}
+use Rattle.edits.specs.Edits.{edits, key_of}
 use Rattle.edits.proofs.order.ascend_by_value.Given as goal
 
 abbrev pub invariant-loop-i : goal.invariant-loop-i
 invariant-loop-i l = Climbs by_value (map key_of (edits l.times l.values l.diffs)) l.i
-
-abbrev pub decreases-loop-i : goal.decreases-loop-i
-decreases-loop-i l = length l.times - l.i

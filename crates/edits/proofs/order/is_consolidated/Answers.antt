@@ -1,9 +1,9 @@
-use Rattle.edits.proofs.InOrder.{order_yes, order_no}
-use mathlib.Core.Path.{sym, ◌∙◌}
+use Rattle.std.proofs.Common.{rules}
+use Rattle.edits.proofs.InOrder.{two_tests}
 use Rattle.edits.proofs.order.is_consolidated.Goals as goal
 
 pub returns-then-ascend_by_value : goal.returns-then-ascend_by_value
-returns-then-ascend_by_value c = order_yes _ _ _ c.requires (sym c.if-ascend_by_value.true ∙ c.ascend_by_value.ensures) c.no_zeros.ensures
+returns-then-ascend_by_value c = rw (two_tests _ _ _ c.requires) (search rules)
 
-pub returns : goal.returns
-returns c = order_no _ _ _ c.requires (sym c.if-ascend_by_value.false ∙ c.ascend_by_value.ensures)
+pub returns-else-ascend_by_value : goal.returns-else-ascend_by_value
+returns-else-ascend_by_value c = rw (two_tests _ _ _ c.requires) (search rules)

@@ -6,4 +6,4 @@ pub move_edits-requires : goal.move_edits-requires
 move_edits-requires c = edits_within _ _ _ c.requires.0 _ c.requires.1 (λ t. leb t c.args.n.0) c.end_through-to.ensures
 
 pub returns : goal.returns
-returns c = edits-step _ _ _ c.requires.0 _ c.requires.1 (λ t. leb t c.args.n.0) c.end_through-to.ensures c.move_edits.ensures
+returns c = edits-step _ _ _ c.requires.0 _ c.requires.1 (λ t. leb t c.args.n.0) c.end_through-to.ensures c.move_edits.ensures c.stepped_to.ensures

@@ -1,10 +1,6 @@
-use native.Mathlib.Nat.{sub-zero}
-use Rattle.emissions.proofs.Emissions.{writing_start, writing_more, writing_end}
 use Rattle.grid.proofs.Loops.{fills_more, fills_none}
+use Rattle.emissions.proofs.Emissions.{writing_more, writing_end}
 use Rattle.emissions.proofs.emit.emit_value.Goals as goal
-
-pub loop-i-init : goal.loop-i-init
-loop-i-init c = rw sub-zero (writing_start _ _ _)
 
 pub loop-i-preserved : goal.loop-i-preserved
 loop-i-preserved c = writing_more _ c.loop-i.invariant (fills_more _ _ _ c.loop-i-test.true) c.write.ensures

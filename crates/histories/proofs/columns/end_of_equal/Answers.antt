@@ -1,17 +1,15 @@
-use borrow.Author.Tests.{eq-eqb, ne_eqb}
-use lib.Dec.{eqb}
-use mathlib.Core.Path.{refl}
-use Rattle.histories.proofs.Steps.{ends_more, ends_here, ends_over}
+use Rattle.std.proofs.Common.{rules, ◌+◌, length, eqb, ap, ◌∙◌}
+use Rattle.std.proofs.lemmas.Iterator.{YieldsList-from_slice}
+use Rattle.std.proofs.lemmas.Iterator.Adapters.{YieldsList-from_skip}
+use Rattle.std.proofs.lemmas.Iterator.Consumers.{count_from_yields_List}
+use Rattle.std.proofs.lemmas.Iterator.Search.{YieldsList-from_take_while}
+use borrow.Author.Tests.{tests}
+use Rattle.grid.proofs.Chains.{take_while_front}
 use Rattle.histories.proofs.columns.end_of_equal.Goals as goal
 
-pub loop-i-init : goal.loop-i-init
-loop-i-init c = refl
-
-pub loop-i-preserved : goal.loop-i-preserved
-loop-i-preserved c = ends_more (eqb c.args.n.0) c.args.times.now c.loop-i.i 0 c.loop-i-test.true (eq-eqb _ _ c.if-n-times.true) c.loop-i.invariant
-
-pub returns-else-n-times : goal.returns-else-n-times
-returns-else-n-times c = ends_here (eqb c.args.n.0) c.args.times.now c.loop-i.i 0 c.loop-i-test.true (ne_eqb _ _ c.if-n-times.false) c.loop-i.invariant
-
 pub returns : goal.returns
-returns c = ends_over (eqb c.args.n.0) c.args.times.now c.loop-i.i c.loop-i-test.false c.loop-i.invariant
+returns c =
+    ap (λ k. c.args.at + k)
+    (count_from_yields_List _ _ c.count.ensures.ran
+    (YieldsList-from_take_while _ (eqb c.args.n.0) (YieldsList-from_skip c.args.at (YieldsList-from_slice c.args.times.now cc) (cc)) c.take_while.ensures.closure c.take_while.ensures.done (λ x b q k. search (rules, tests)))
+    ∙ ap length (take_while_front (eqb c.args.n.0) _))

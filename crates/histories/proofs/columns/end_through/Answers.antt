@@ -1,17 +1,15 @@
-use borrow.Author.Tests.{le-leb, lt-leb}
-use lib.Dec.{leb}
-use mathlib.Core.Path.{refl}
-use Rattle.histories.proofs.Steps.{ends_more, ends_here, ends_over}
+use Rattle.std.proofs.Common.{rules, ◌+◌, length, leb, ap, ◌∙◌}
+use Rattle.std.proofs.lemmas.Iterator.{YieldsList-from_slice}
+use Rattle.std.proofs.lemmas.Iterator.Adapters.{YieldsList-from_skip}
+use Rattle.std.proofs.lemmas.Iterator.Consumers.{count_from_yields_List}
+use Rattle.std.proofs.lemmas.Iterator.Search.{YieldsList-from_take_while}
+use borrow.Author.Tests.{tests}
+use Rattle.grid.proofs.Chains.{take_while_front}
 use Rattle.histories.proofs.columns.end_through.Goals as goal
 
-pub loop-i-init : goal.loop-i-init
-loop-i-init c = refl
-
-pub loop-i-preserved : goal.loop-i-preserved
-loop-i-preserved c = ends_more (λ t. leb t c.args.n.0) c.args.column.now c.loop-i.i 0 c.loop-i-test.true (le-leb _ _ c.if-column-i.true) c.loop-i.invariant
-
-pub returns-else-column-i : goal.returns-else-column-i
-returns-else-column-i c = ends_here (λ t. leb t c.args.n.0) c.args.column.now c.loop-i.i 0 c.loop-i-test.true (lt-leb _ _ c.if-column-i.false) c.loop-i.invariant
-
 pub returns : goal.returns
-returns c = ends_over (λ t. leb t c.args.n.0) c.args.column.now c.loop-i.i c.loop-i-test.false c.loop-i.invariant
+returns c =
+    ap (λ k. c.args.at + k)
+    (count_from_yields_List _ _ c.count.ensures.ran
+    (YieldsList-from_take_while _ (λ t. leb t c.args.n.0) (YieldsList-from_skip c.args.at (YieldsList-from_slice c.args.column.now cc) (cc)) c.take_while.ensures.closure c.take_while.ensures.done (λ x b q k. search (rules, tests)))
+    ∙ ap length (take_while_front (λ t. leb t c.args.n.0) _))

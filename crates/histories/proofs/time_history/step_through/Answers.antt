@@ -6,4 +6,4 @@ pub move_down-requires : goal.move_down-requires
 move_down-requires c = steps_within (λ t. leb t c.args.n.0) _ _ c.requires c.end_through-to.ensures
 
 pub returns : goal.returns
-returns c = steps (λ t. leb t c.args.n.0) _ _ c.requires c.end_through-to.ensures c.move_down.ensures
+returns c = steps (λ t. leb t c.args.n.0) _ _ c.requires c.end_through-to.ensures c.move_down.ensures c.stepped_to.ensures

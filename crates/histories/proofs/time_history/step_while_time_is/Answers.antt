@@ -6,4 +6,4 @@ pub move_down-requires : goal.move_down-requires
 move_down-requires c = steps_within (eqb c.args.n.0) _ _ c.requires c.end_of_equal-to.ensures
 
 pub returns : goal.returns
-returns c = steps (eqb c.args.n.0) _ _ c.requires c.end_of_equal-to.ensures c.move_down.ensures
+returns c = steps (eqb c.args.n.0) _ _ c.requires c.end_of_equal-to.ensures c.move_down.ensures c.stepped_to.ensures

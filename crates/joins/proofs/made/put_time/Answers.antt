@@ -2,10 +2,8 @@ use Rattle.joins.proofs.Sets.{put_full, put_new}
 use native.Mathlib.Omega.{arith}
 use Rattle.joins.proofs.made.put_time.Goals as goal
 
--- src/made.rt:31:9
 pub returns-then-count-gt-MOST_MOMENTS : goal.returns-then-count-gt-MOST_MOMENTS
 returns-then-count-gt-MOST_MOMENTS c = put_full _ _ _ c.requires (omega arith)
 
--- src/made.rt:26:1
-pub returns : goal.returns
-returns c = put_new _ _ _ c.requires _ (omega arith) (omega arith) c.insert_distinct.ensures
+pub returns-else-count-gt-MOST_MOMENTS : goal.returns-else-count-gt-MOST_MOMENTS
+returns-else-count-gt-MOST_MOMENTS c = put_new _ _ _ c.requires _ (omega arith) (omega arith) c.insert_distinct.ensures

@@ -1,17 +1,15 @@
-use borrow.Author.Tests.{lt-ltb, le-ltb}
-use lib.Dec.{ltb}
-use mathlib.Core.Path.{refl}
-use Rattle.histories.proofs.Steps.{ends_more, ends_here, ends_over}
+use Rattle.std.proofs.Common.{rules, ◌+◌, length, ltb, ap, ◌∙◌}
+use Rattle.std.proofs.lemmas.Iterator.{YieldsList-from_slice}
+use Rattle.std.proofs.lemmas.Iterator.Adapters.{YieldsList-from_skip}
+use Rattle.std.proofs.lemmas.Iterator.Consumers.{count_from_yields_List}
+use Rattle.std.proofs.lemmas.Iterator.Search.{YieldsList-from_take_while}
+use borrow.Author.Tests.{tests}
+use Rattle.grid.proofs.Chains.{take_while_front}
 use Rattle.keys.proofs.parts.end_below.Goals as goal
 
-pub loop-i-init : goal.loop-i-init
-loop-i-init c = refl
-
-pub loop-i-preserved : goal.loop-i-preserved
-loop-i-preserved c = ends_more (λ x. ltb x c.args.key.0) c.args.keys.now c.loop-i.i 0 c.loop-i-test.true (lt-ltb _ _ c.if-keys-i.true) c.loop-i.invariant
-
-pub returns-else-keys-i : goal.returns-else-keys-i
-returns-else-keys-i c = ends_here (λ x. ltb x c.args.key.0) c.args.keys.now c.loop-i.i 0 c.loop-i-test.true (le-ltb _ _ c.if-keys-i.false) c.loop-i.invariant
-
 pub returns : goal.returns
-returns c = ends_over (λ x. ltb x c.args.key.0) c.args.keys.now c.loop-i.i c.loop-i-test.false c.loop-i.invariant
+returns c =
+    ap (λ k. c.args.start + k)
+    (count_from_yields_List _ _ c.count.ensures.ran
+    (YieldsList-from_take_while _ (λ x. ltb x c.args.key.0) (YieldsList-from_skip c.args.start (YieldsList-from_slice c.args.keys.now cc) (cc)) c.take_while.ensures.closure c.take_while.ensures.done (λ x b q k. search (rules, tests)))
+    ∙ ap length (take_while_front (λ x. ltb x c.args.key.0) _))

@@ -1,17 +1,15 @@
-use borrow.Author.Tests.{eq-eqb, ne_eqb}
-use lib.Dec.{eqb}
-use mathlib.Core.Path.{refl}
-use Rattle.histories.proofs.Steps.{ends_more, ends_here, ends_over}
+use Rattle.std.proofs.Common.{rules, ◌+◌, length, eqb, ap, ◌∙◌}
+use Rattle.std.proofs.lemmas.Iterator.{YieldsList-from_slice}
+use Rattle.std.proofs.lemmas.Iterator.Adapters.{YieldsList-from_skip}
+use Rattle.std.proofs.lemmas.Iterator.Consumers.{count_from_yields_List}
+use Rattle.std.proofs.lemmas.Iterator.Search.{YieldsList-from_take_while}
+use borrow.Author.Tests.{tests}
+use Rattle.grid.proofs.Chains.{take_while_front}
 use Rattle.keys.proofs.parts.end_equal.Goals as goal
 
-pub loop-i-init : goal.loop-i-init
-loop-i-init c = refl
-
-pub loop-i-preserved : goal.loop-i-preserved
-loop-i-preserved c = ends_more (eqb c.args.key.0) c.args.keys.now c.loop-i.i 0 c.loop-i-test.true (eq-eqb _ _ c.if-key-keys.true) c.loop-i.invariant
-
-pub returns-else-key-keys : goal.returns-else-key-keys
-returns-else-key-keys c = ends_here (eqb c.args.key.0) c.args.keys.now c.loop-i.i 0 c.loop-i-test.true (ne_eqb _ _ c.if-key-keys.false) c.loop-i.invariant
-
 pub returns : goal.returns
-returns c = ends_over (eqb c.args.key.0) c.args.keys.now c.loop-i.i c.loop-i-test.false c.loop-i.invariant
+returns c =
+    ap (λ k. c.args.start + k)
+    (count_from_yields_List _ _ c.count.ensures.ran
+    (YieldsList-from_take_while _ (eqb c.args.key.0) (YieldsList-from_skip c.args.start (YieldsList-from_slice c.args.keys.now cc) (cc)) c.take_while.ensures.closure c.take_while.ensures.done (λ x b q k. search (rules, tests)))
+    ∙ ap length (take_while_front (eqb c.args.key.0) _))

@@ -1,20 +1,15 @@
-use Rattle.moments.proofs.Summing.{run_hit, run_more, run_none}
-use mathlib.Core.Path.{refl}
-use borrow.Author.Rules.{rules}
+use Rattle.std.proofs.Common.{rules, ◌+◌, eqb, ap, ◌∙◌}
+use Rattle.std.proofs.lemmas.Iterator.{YieldsList-from_slice}
+use Rattle.std.proofs.lemmas.Iterator.Adapters.{YieldsList-from_skip}
+use Rattle.std.proofs.lemmas.Iterator.Consumers.{count_from_yields_List}
+use Rattle.std.proofs.lemmas.Iterator.Search.{YieldsList-from_take_while}
+use borrow.Author.Tests.{tests}
+use Rattle.moments.proofs.Summing.{run_taken}
 use Rattle.moments.proofs.moment.run_end.Goals as goal
 
--- src/moment.rt:29:5
-pub loop-i-init : goal.loop-i-init
-loop-i-init c = (c.requires, refl)
-
--- src/moment.rt:31:13
-pub returns-then-values-i : goal.returns-then-values-i
-returns-then-values-i c = run_hit c.args.v c.args.values.now c.loop-i.i c.loop-i-test.true c.loop-i.invariant.1 c.if-values-i.true
-
--- src/moment.rt:29:5
-pub loop-i-preserved : goal.loop-i-preserved
-loop-i-preserved c = (search rules, run_more c.args.v c.args.values.now c.loop-i.i c.loop-i-test.true c.loop-i.invariant.1 c.if-values-i.false)
-
--- src/moment.rt:24:1
 pub returns : goal.returns
-returns c = run_none c.args.v c.args.values.now c.loop-i.i c.loop-i-test.false c.loop-i.invariant.1
+returns c =
+    ap (λ k. c.args.from + k)
+    (count_from_yields_List _ _ c.count.ensures.ran
+    (YieldsList-from_take_while _ (λ x. eqb x c.args.v) (YieldsList-from_skip c.args.from (YieldsList-from_slice c.args.values.now cc) (cc)) c.take_while.ensures.closure c.take_while.ensures.done (λ x b q k. search (rules, tests)))
+    ∙ run_taken c.args.v _)

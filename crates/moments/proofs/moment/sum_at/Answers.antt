@@ -1,32 +1,20 @@
-use Rattle.moments.proofs.Summing.{summing_start, summing_skip, summing_add, summing_end, in_diffs_lem, sum_fits}
-use Rattle.diffs.proofs.Signed.{added, added_fits}
-use mir.Val.{to_z}
-use mir.Syntax.{w64}
-use lib.ListN.{get_or}
-use lib.IntN.{pos}
+use borrow.Author.Rules.{rules}
+use mathlib.Core.Logic.{inl, inr}
 use mathlib.Core.Path.{sym, ◌∙◌}
+use Rattle.moments.proofs.Summing.{summing_start, sum_fits, summing_skip, summing_add, summing_end}
 use Rattle.moments.proofs.moment.sum_at.Goals as goal
 
--- src/moment.rt:45:5
-pub loop-i-init : goal.loop-i-init
-loop-i-init c = summing_start _ _ _ c.requires
+pub loop-time-init : goal.loop-time-init
+loop-time-init c = summing_start _ _ _ c.requires (search rules) (search rules)
 
--- src/moment.rt:47:21
-pub bounds-diffs-i : goal.bounds-diffs-i
-bounds-diffs-i c = in_diffs_lem c.loop-i.invariant c.loop-i-test.true
+pub overflow_add-sum : goal.overflow_add-sum
+overflow_add-sum c = sum_fits c.loop-time.invariant c.in-Some.ensures.steps.0 c.in-Some.ensures.steps.1
 
--- src/moment.rt:48:17
-pub overflow_add-s : goal.overflow_add-s
-overflow_add-s c = added_fits (to_z w64 c.loop-i.s-bits) _ c.d-1.given (sum_fits c.loop-i.invariant c.loop-i-test.true)
+pub loop-time-preserved-then-is_seen : goal.loop-time-preserved-then-is_seen
+loop-time-preserved-then-is_seen c = summing_add c.loop-time.invariant c.in-Some.ensures.steps.0 c.in-Some.ensures.steps.1 (sym c.if-is_seen.ensures)
 
--- src/moment.rt:45:5
-pub loop-i-preserved-then-is_seen : goal.loop-i-preserved-then-is_seen
-loop-i-preserved-then-is_seen c = summing_add c.loop-i.invariant c.loop-i-test.true _ (added (to_z w64 c.loop-i.s-bits) (get_or c.args.diffs.now c.loop-i.i (pos 0)) c.d-1.given (sum_fits c.loop-i.invariant c.loop-i-test.true)) (sym c.is_seen.ensures ∙ c.if-is_seen.true)
+pub loop-time-preserved : goal.loop-time-preserved
+loop-time-preserved c = summing_skip c.loop-time.invariant c.in-Some.ensures.steps.0 c.in-Some.ensures.steps.1 (sym c.if-is_seen.ensures)
 
--- src/moment.rt:45:5
-pub loop-i-preserved : goal.loop-i-preserved
-loop-i-preserved c = summing_skip c.loop-i.invariant c.loop-i-test.true (sym c.is_seen.ensures ∙ c.if-is_seen.false)
-
--- src/moment.rt:39:1
 pub returns : goal.returns
-returns c = summing_end c.loop-i.invariant c.loop-i-test.false
+returns c = summing_end c.loop-time.invariant (elim c.in-None.ensures.steps [ inl x ↦ x.1.0 | inr x ↦ sym c.loop-time.invariant.same ∙ x.1.0 ])

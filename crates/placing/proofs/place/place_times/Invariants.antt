@@ -7,6 +7,3 @@ use Rattle.placing.proofs.place.place_times.Given as goal
 
 abbrev pub invariant-loop-i : goal.invariant-loop-i
 invariant-loop-i l = (take l.i l.out ++ map (place_beside l.held l.places l.count) (drop l.i l.times) ≡ map (place_beside l.held l.places l.count) l.times) × (length l.out ≡ length l.times)
-
-abbrev pub decreases-loop-i : goal.decreases-loop-i
-decreases-loop-i l = length l.times - l.i

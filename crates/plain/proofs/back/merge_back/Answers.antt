@@ -17,11 +17,11 @@ slice_bounds-copy-end-2 c = column_within c.merge_corrections-m.ensures.times
 pub copy-requires-2 : goal.copy-requires-2
 copy-requires-2 c = (back_room c.requires c.args.t.0 c.merge_corrections-m.ensures).1.0
 
-pub slice_bounds-copy_diffs-end : goal.slice_bounds-copy_diffs-end
-slice_bounds-copy_diffs-end c = column_within c.merge_corrections-m.ensures.diffs
+pub slice_bounds-copy-end-3 : goal.slice_bounds-copy-end-3
+slice_bounds-copy-end-3 c = column_within c.merge_corrections-m.ensures.diffs
 
-pub copy_diffs-requires : goal.copy_diffs-requires
-copy_diffs-requires c = (back_room c.requires c.args.t.0 c.merge_corrections-m.ensures).1.1
+pub copy-requires-3 : goal.copy-requires-3
+copy-requires-3 c = (back_room c.requires c.args.t.0 c.merge_corrections-m.ensures).1.1
 
 pub returns : goal.returns
-returns c = back_merged c.requires c.args.t.0 c.merge_corrections-m.ensures c.copy.ensures c.copy-2.ensures c.copy_diffs.ensures
+returns c = back_merged c.requires c.args.t.0 c.merge_corrections-m.ensures c.copy.ensures c.copy-2.ensures c.copy-3.ensures

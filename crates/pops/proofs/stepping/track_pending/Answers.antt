@@ -1,22 +1,18 @@
-use Rattle.pops.proofs.Tracks.{tracks_start, tracks_more, tracks_room, tracks_left, tracks_end}
+use native.Mathlib.Omega.{arith}
+use borrow.Author.Rules.{rules}
+use mathlib.Core.Path.{◌≡◌}
+use Prim.Native.Nat.{◌-◌}
+use Rattle.std.specs.Prelude.{replicate}
+use Rattle.pops.proofs.Tracks.{equal_within, tracks}
 use Rattle.pops.proofs.stepping.track_pending.Goals as goal
 
--- src/stepping.rt:48:5
-pub loop-i-init : goal.loop-i-init
-loop-i-init c = tracks_start _ _ _ _ _ c.requires.0 c.requires.1
+pub overflow_add-after : goal.overflow_add-after
+overflow_add-after c = let h = equal_within _ _ _ c.requires.0 c.end_of_equal-end.ensures in omega (arith, c.requires.1)
 
--- src/stepping.rt:50:13
-pub bounds-tracked-k : goal.bounds-tracked-k
-bounds-tracked-k c = tracks_room c.loop-i.invariant c.loop-i-test.true
+pub slice_bounds-fill-end : goal.slice_bounds-fill-end
+slice_bounds-fill-end c = let h = equal_within _ _ _ c.requires.0 c.end_of_equal-end.ensures in search rules
 
--- src/stepping.rt:48:5
-pub loop-i-preserved : goal.loop-i-preserved
-loop-i-preserved c = tracks_more c.loop-i.invariant c.loop-i-test.true c.if-n-pending.true
-
--- src/stepping.rt:54:13
-pub returns-else-n-pending : goal.returns-else-n-pending
-returns-else-n-pending c = tracks_left c.loop-i.invariant c.loop-i-test.true c.if-n-pending.false
-
--- src/stepping.rt:42:1
 pub returns : goal.returns
-returns c = tracks_end c.loop-i.invariant c.loop-i-test.false
+returns c =
+    let f : c.fill.new.self ≡ replicate (c.end_of_equal-end.result - c.args.at) c.args.n.0 = search rules in
+    tracks _ _ _ _ _ c.requires.0 c.requires.1 c.end_of_equal-end.ensures f

@@ -1,17 +1,15 @@
-use Rattle.tiles.proofs.Cutting.{cutting_start, cutting_more, cutting_end}
-use native.Mathlib.Omega.{arith}
+use lib.Seq.{take-length}
+use mathlib.Core.Path.{◌≡◌, sym}
+use Rattle.tiles.proofs.Cutting.{cutting_start, cutting_turn, cutting_end}
 use Rattle.tiles.proofs.cut.cut.Goals as goal
 
-pub write_all-count-requires : goal.write_all-count-requires
-write_all-count-requires c = omega arith
+pub loop-t-init : goal.loop-t-init
+loop-t-init c =
+    let e : c.into_iter-t-iterator.result.iter.rest.now ≡ c.args.later.now = cc in
+    rw e (sym (take-length c.args.later.now), cutting_start c.requires c.write_all-count.ensures)
 
-pub loop-i-init : goal.loop-i-init
-loop-i-init c =
-    cutting_start c.requires c.write_all-count.ensures
-
-pub loop-i-preserved : goal.loop-i-preserved
-loop-i-preserved c =
-    cutting_more c.loop-i.invariant c.loop-i-test.true c.insert_time-count.ensures
+pub loop-t-preserved : goal.loop-t-preserved
+loop-t-preserved c = cutting_turn c.args.later.now _ _ _ c.loop-t.invariant.0 c.in-Some.ensures.steps c.loop-t.invariant.1 c.insert_time-count.ensures
 
 pub returns : goal.returns
-returns c = cutting_end c.loop-i.invariant c.loop-i-test.false
+returns c = cutting_end c.loop-t.invariant.1 c.in-None.ensures.steps.0

@@ -3,7 +3,7 @@ use mathlib.Core.Path.{sym, ◌∙◌}
 use Rattle.tiles.proofs.place.tile_of.Goals as goal
 
 pub loop-i-init : goal.loop-i-init
-loop-i-init c = seeking_start _ _ _ c.smaller-i.ensures
+loop-i-init c = seeking_start _ _ _ c.min-i.ensures
 
 pub returns-then-below : goal.returns-then-below
 returns-then-below c =

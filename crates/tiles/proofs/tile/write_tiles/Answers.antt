@@ -1,18 +1,10 @@
-use Rattle.tiles.proofs.Walking.{walking_start, cut_room, kept_room, copy_room, walking_more, walking_end}
-use native.Mathlib.Omega.{arith}
+use Rattle.tiles.proofs.Walking.{walking_start, kept_room, copy_room, walking_more, walking_end}
 use borrow.Author.Rules.{rules}
 use Rattle.tiles.proofs.tile.write_tiles.Goals as goal
-
-pub write_all-last-requires : goal.write_all-last-requires
-write_all-last-requires c =
-    omega (arith, c.requires.few_lower, c.requires.room_low)
 
 pub loop-i-init : goal.loop-i-init
 loop-i-init c =
     walking_start c.requires c.write_all-last.ensures
-
-pub cut-next-requires : goal.cut-next-requires
-cut-next-requires c = cut_room c.loop-i.invariant c.loop-i-test.true
 
 pub write_kept-count-requires : goal.write_kept-count-requires
 write_kept-count-requires c =

@@ -1,13 +1,11 @@
-use mathlib.Core.Path.{sym, ap, ◌∙◌}
-use Rattle.times.specs.declared.optional.Meet.{Meet}
-use Rattle.times.specs.Meets.{optional}
+use Rattle.std.proofs.Common.{rules}
 use Rattle.grid.specs.Times.{joined}
 use Rattle.times.proofs.optional.joined.Goals as goal
 
-pub returns-in-Present : goal.returns-in-Present
+pub returns-in-Some : goal.returns-in-Some
 unfolding joined
-returns-in-Present c = c.join.ensures ∙ sym (ap (λ (m : Meet). joined (optional m) c.args.t.0) c.in-Present.is)
+returns-in-Some c = search rules
 
-pub returns : goal.returns
+pub returns-in-None : goal.returns-in-None
 unfolding joined
-returns c = sym (ap (λ (m : Meet). joined (optional m) c.args.t.0) c.in_default.is)
+returns-in-None c = search rules

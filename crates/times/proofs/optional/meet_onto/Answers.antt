@@ -1,13 +1,11 @@
-use mathlib.Core.Path.{sym, ap, ◌∙◌}
-use Rattle.times.specs.declared.optional.Meet.{Meet}
-use Rattle.times.specs.Meets.{optional}
+use Rattle.std.proofs.Common.{rules}
 use Rattle.grid.specs.Times.{meet_onto}
 use Rattle.times.proofs.optional.meet_onto.Goals as goal
 
-pub returns-in-Present : goal.returns-in-Present
+pub returns-in-Some : goal.returns-in-Some
 unfolding meet_onto
-returns-in-Present c = c.meet.ensures ∙ sym (ap (λ (m : Meet). meet_onto c.args.t.0 (optional m)) c.in-Present.is)
+returns-in-Some c = search rules
 
-pub returns : goal.returns
+pub returns-in-None : goal.returns-in-None
 unfolding meet_onto
-returns c = sym (ap (λ (m : Meet). meet_onto c.args.t.0 (optional m)) c.in_default.is)
+returns-in-None c = search rules

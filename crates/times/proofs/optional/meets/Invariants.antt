@@ -1,9 +1,7 @@
-use Rattle.times.proofs.Times.{Meeting}
+use Rattle.std.proofs.Common.{◌≡◌}
+use Rattle.grid.specs.Times.{meets}
 use Rattle.times.specs.Meets.{optional}
 use Rattle.times.proofs.optional.meets.Given as goal
 
-abbrev pub invariant-loop-i : goal.invariant-loop-i
-invariant-loop-i l = Meeting l.ts l.i (optional l.initial.found) (optional l.found)
-
-abbrev pub decreases-loop-i : goal.decreases-loop-i
-decreases-loop-i l = l.i
+abbrev pub invariant-loop-t : goal.invariant-loop-t
+invariant-loop-t l = meets l.t-iterator.iter.rest.now (optional l.found) ≡ meets l.ts (optional l.fn.m)

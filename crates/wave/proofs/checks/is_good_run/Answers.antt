@@ -1,8 +1,9 @@
-use Rattle.wave.proofs.Checking.{run-over, run_small}
+use Rattle.std.proofs.Common.{rules}
+use Rattle.wave.proofs.Checking.{two_tests}
 use Rattle.wave.proofs.checks.is_good_run.Goals as goal
 
-pub returns-then-times-gt-MOST_EDITS : goal.returns-then-times-gt-MOST_EDITS
-returns-then-times-gt-MOST_EDITS c = run-over _ _ _ c.requires c.if-times-gt-MOST_EDITS.true
+pub returns-then-times-le-MOST_EDITS : goal.returns-then-times-le-MOST_EDITS
+returns-then-times-le-MOST_EDITS c = rw (two_tests _ _ _ c.requires) (search rules)
 
-pub returns : goal.returns
-returns c = run_small _ _ _ c.requires c.if-times-gt-MOST_EDITS.false c.all_small.ensures
+pub returns-else-times-le-MOST_EDITS : goal.returns-else-times-le-MOST_EDITS
+returns-else-times-le-MOST_EDITS c = rw (two_tests _ _ _ c.requires) (search rules)

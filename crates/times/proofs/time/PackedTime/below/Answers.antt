@@ -1,8 +1,11 @@
-use Rattle.times.proofs.Times.{below_yes, below_no}
+use Rattle.std.proofs.Common.{rules}
+use Rattle.grid.specs.Times.{below}
 use Rattle.times.proofs.time.PackedTime.below.Goals as goal
 
 pub returns-then-hi : goal.returns-then-hi
-returns-then-hi c = below_yes _ _ c.hi.ensures c.hi-2.ensures c.lo.ensures c.lo-then-hi.ensures c.if-hi.true
+unfolding below
+returns-then-hi c = search rules
 
-pub returns : goal.returns
-returns c = below_no _ _ c.hi.ensures c.hi-2.ensures c.if-hi.false
+pub returns-else-hi : goal.returns-else-hi
+unfolding below
+returns-else-hi c = search rules

@@ -1,11 +1,11 @@
-use mathlib.Core.Path.{sym, ◌∙◌}
+use Rattle.std.proofs.Common.{rules}
 use Rattle.grid.specs.Frontiers.{comparable}
 use Rattle.times.proofs.time.PackedTime.comparable.Goals as goal
 
 pub returns-then-below : goal.returns-then-below
 unfolding comparable
-returns-then-below c = rw (sym c.below.ensures ∙ c.if-below.true)
+returns-then-below c = search rules
 
-pub returns : goal.returns
+pub returns-else-below : goal.returns-else-below
 unfolding comparable
-returns c = rw (sym c.below.ensures ∙ c.if-below.false) c.below-2.ensures
+returns-else-below c = search rules

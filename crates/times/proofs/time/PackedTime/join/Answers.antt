@@ -1,6 +1,7 @@
+use Rattle.std.proofs.Common.{rules}
 use Rattle.grid.specs.Times.{join}
 use Rattle.times.proofs.time.PackedTime.join.Goals as goal
 
 pub returns : goal.returns
 unfolding join
-returns c = cc
+returns c = search rules

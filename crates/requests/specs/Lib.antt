@@ -1,0 +1,3 @@
+pub mod Memory
+pub mod Runs
+pub mod Statuses
