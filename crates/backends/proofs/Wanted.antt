@@ -10,7 +10,6 @@ use mathlib.Core.List.{List, [], ◌∷◌, ◌++◌}
 use lib.Dec.{ltb}
 use lib.IntN.{ℤ, pos, ◌+ℤ◌, nat_abs}
 use lib.ListN.{length}
-use borrow.Author.Tests.{eq-eqb, ne_eqb}
 use Rattle.grid.specs.Consolidate.{is_zero, consolidate, total}
 use Rattle.grid.proofs.Tests.{clash}
 use Rattle.grid.proofs.Lists.{nil}
@@ -20,6 +19,9 @@ use Rattle.grid.proofs.Operations.{no_length}
 use Rattle.rules.specs.Backends.{Sums, listed, count, distinct, wanted, minus, correction}
 use Rattle.backends.specs.Columns.{entries, Appended}
 use Rattle.backends.specs.Correct.{distinct_minus, Ready, Segment}
+use Rattle.backends.specs.Modes.{mode_number}
+use Rattle.backends.specs.declared.mode.Mode.{Mode}
+use Rattle.backends.specs.declared.mode.Mode.TheVariants.{Count, Distinct}
 use Rattle.backends.proofs.Columns.{less}
 
 total-entries : (vs : List ℕ) (ds : List ℤ) → length ds ≡ length vs → total (entries vs ds) ≡ sum (λ x. x) ds
@@ -47,21 +49,22 @@ module _ {iv : List ℕ} {id : List ℤ} {ov : List ℕ} {od : List ℤ} {cv : L
       let k : 1 ≤ length iv = some_input iv id s.ready.same_i z in
       record { same_i = refl; same_o = s.ready.same_o; same_c = s.ready.same_c; room = omega arith; canon_i = more refl nil none; canon_o = s.ready.canon_o; small_o = s.ready.small_o }
 
-  module _ {v : List ℕ} {d : List ℤ} {r : ℕ} (mode : ℕ) where
-    finish : (e : Sums) → distinct e ≡ wanted mode (entries iv id) → Appended cv cd at (distinct_minus e (entries ov od)) v d r → Appended cv cd at (correction mode (entries iv id) (entries ov od)) v d r
+  module _ {v : List ℕ} {d : List ℤ} {r : ℕ} (mode : Mode) where
+    finish : (e : Sums) → distinct e ≡ wanted (mode_number mode) (entries iv id) → Appended cv cd at (distinct_minus e (entries ov od)) v d r
+        → Appended cv cd at (correction (mode_number mode) (entries iv id) (entries ov od)) v d r
     unfolding distinct_minus correction
     finish e q a = subst (λ (l : Sums). Appended cv cd at l v d r) (ap (λ l. consolidate ltb (l ++ minus (entries ov od))) q) a
 
-    pub end_distinct : (mode ≡ 1 → ⊥) → Appended cv cd at (distinct_minus (entries iv id) (entries ov od)) v d r → Appended cv cd at (correction mode (entries iv id) (entries ov od)) v d r
+    pub end_distinct : mode ≡ Distinct → Appended cv cd at (distinct_minus (entries iv id) (entries ov od)) v d r → Appended cv cd at (correction (mode_number mode) (entries iv id) (entries ov od)) v d r
     unfolding wanted
-    end_distinct n a = finish (entries iv id) (rw (ne_eqb mode 1 n)) a
+    end_distinct m a = finish (entries iv id) (rw m refl) a
 
-    pub end_none : mode ≡ 1 → is_zero (sum (λ x. x) id) ≡ true → Appended cv cd at (distinct_minus (entries [] []) (entries ov od)) v d r
-        → Appended cv cd at (correction mode (entries iv id) (entries ov od)) v d r
+    pub end_none : mode ≡ Count → is_zero (sum (λ x. x) id) ≡ true → Appended cv cd at (distinct_minus (entries [] []) (entries ov od)) v d r
+        → Appended cv cd at (correction (mode_number mode) (entries iv id) (entries ov od)) v d r
     unfolding entries wanted count distinct
-    end_none m z a = finish [] (rw (eq-eqb mode 1 m, total-entries iv id s.ready.same_i, z)) a
+    end_none m z a = finish [] (rw (m, total-entries iv id s.ready.same_i, z) refl) a
 
-    pub end_one : (x : ℕ) → mode ≡ 1 → is_zero (sum (λ x. x) id) ≡ false → x ≡ nat_abs (pos 9223372036854775808 +ℤ sum (λ x. x) id)
-        → Appended cv cd at (distinct_minus (entries (x ∷ []) (pos 1 ∷ [])) (entries ov od)) v d r → Appended cv cd at (correction mode (entries iv id) (entries ov od)) v d r
+    pub end_one : (x : ℕ) → mode ≡ Count → is_zero (sum (λ x. x) id) ≡ false → x ≡ nat_abs (pos 9223372036854775808 +ℤ sum (λ x. x) id)
+        → Appended cv cd at (distinct_minus (entries (x ∷ []) (pos 1 ∷ [])) (entries ov od)) v d r → Appended cv cd at (correction (mode_number mode) (entries iv id) (entries ov od)) v d r
     unfolding entries wanted count distinct listed
-    end_one x m z e a = finish ((x, pos 1) ∷ []) (rw (eq-eqb mode 1 m, total-entries iv id s.ready.same_i, z) (ap (λ y. (y, pos 1) ∷ []) e)) a
+    end_one x m z e a = finish ((x, pos 1) ∷ []) (rw (m, total-entries iv id s.ready.same_i, z) (ap (λ y. (y, pos 1) ∷ []) e)) a

@@ -1,3 +1,4 @@
 pub mod Columns
 pub mod Correct
+pub mod Modes
 pub mod Segments

@@ -3,8 +3,10 @@ ghost use Rattle.std.specs.Prelude.{◌≡◌, length, drop};
 ghost use Rattle.rules.specs.Backends.{correction};
 ghost use Rattle.backends.specs.Columns.{entries, Appended};
 ghost use Rattle.backends.specs.Correct.{distinct_minus, turn, Ready, Segment};
+ghost use Rattle.backends.specs.Modes.{mode_number};
 
 use crate::listed::is_listed;
+use crate::mode::Mode;
 use diffs::{count_id, total};
 use std::cmp::Ordering;
 
@@ -84,9 +86,9 @@ fn differ(
     k
 }
 
-// Appends at `at` one key's correction: mode 1 counts, any other is distinct. A count is a record that distinct lists.
+// Appends at `at` one key's correction. A count is a record that distinct lists.
 pub fn correct(
-    mode: u64,
+    mode: Mode,
     iv: &[u64],
     id: &[i64],
     ov: &[u64],
@@ -96,16 +98,17 @@ pub fn correct(
     at: usize,
 ) -> usize
     requires { Segment iv.now id.now ov.now od.now cv.old cd.old at }
-    ensures { Appended cv.old cd.old at (correction mode (entries iv.now id.now) (entries ov.now od.now)) cv.new cd.new result }
+    ensures { Appended cv.old cd.old at (correction (mode_number mode) (entries iv.now id.now) (entries ov.now od.now)) cv.new cd.new result }
 {
-    if mode == 1 {
-        let count = total(id);
-        if count == 0 {
-            differ(&[], &[], ov, od, cv, cd, at)
-        } else {
-            differ(&[count_id(count)], &[1], ov, od, cv, cd, at)
+    match mode {
+        Mode::Count => {
+            let count = total(id);
+            if count == 0 {
+                differ(&[], &[], ov, od, cv, cd, at)
+            } else {
+                differ(&[count_id(count)], &[1], ov, od, cv, cd, at)
+            }
         }
-    } else {
-        differ(iv, id, ov, od, cv, cd, at)
+        Mode::Distinct => differ(iv, id, ov, od, cv, cd, at),
     }
 }

@@ -3,5 +3,7 @@
 
 mod correction;
 mod listed;
+mod mode;
 
 pub use correction::correct;
+pub use mode::{Mode, mode_of};

@@ -2,10 +2,12 @@
 #![tactic(auto)]
 
 ghost use Rattle.requests.specs.Memory.{SameResults};
+ghost use Rattle.backends.specs.Modes.{mode_number};
 ghost use Rattle.concluding.specs.Lending.{runs_of};
 ghost use Rattle.concluding.specs.Answered.{Answering, Tries};
 
 use answers::{Outcome, conclude};
+use backends::Mode;
 use keys::changed_keys;
 use requests::{Pending, Request, ResultMemory, Run};
 use results::Scratch;
@@ -14,12 +16,13 @@ use windows::work_windows;
 // Finds the changed keys, works their windows, and writes the answer, if there is room in short columns for the corrections and the next pending list.
 pub fn answer_briefly(
     q: &Request<'_>,
+    mode: Mode,
     input: &Run<'_>,
     moments: &mut [u64],
     results: &mut ResultMemory<'_>,
 ) -> Option<Outcome>
     requires { Answering 64 (runs_of q.now input.now) q.now.width q.now.frontiers.lower.now q.now.frontiers.held.now moments.old results.old.numbers.now results.old.diffs.now }
-    ensures tries { Tries (runs_of q.now input.now) q.now.mode q.now.width q.now.frontiers.lower.now q.now.frontiers.held.now result results.old.numbers.now results.new.numbers.now results.old.diffs.now results.new.diffs.now }
+    ensures tries { Tries (runs_of q.now input.now) (mode_number mode) q.now.width q.now.frontiers.lower.now q.now.frontiers.held.now result results.old.numbers.now results.new.numbers.now results.old.diffs.now results.new.diffs.now }
     ensures same { SameResults results.old results.new }
 {
     let mut keys = [0u64; 128];
@@ -43,7 +46,7 @@ pub fn answer_briefly(
     let mut ft = [0u64; 64];
     let mut fd = [0i64; 64];
     let c = work_windows(
-        q.mode,
+        mode,
         q.width as usize,
         q.frontiers.upper,
         &keys[..n],

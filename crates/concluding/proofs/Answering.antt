@@ -1,25 +1,26 @@
 -- The answer of a call that works, once its input is formed: what each of its parts asks, and that it is the rules'.
 --
 -- works_writes: such a call writes. tells-same, answered-same: so result memory may be scratch before it does
+-- answered-mode: the number of a call that works is that of the mode that it names
 -- answering_again: memory of the same lengths serves again. answering_few: a call of few records asks less
 -- keys_asked: what the changed keys ask. keys_are: what they are. lent-work, loops: what the windows ask
 -- concludes: what the answer asks once they are done. answers-call: it is that of any request whose runs these are
-use Prim.Native.Nat.{ℕ, suc, ◌+◌, ◌-◌, ◌≤◌, min}
+use Prim.Native.Nat.{ℕ, suc, ◌+◌, ◌≤◌, min}
 use native.Mathlib.Omega.{arith}
 use mathlib.Core.List.{List, [], ◌∷◌, ◌++◌}
-use mathlib.Core.Path.{◌≡◌, refl, ◌∙◌, ap}
-use mathlib.Core.Bool.{false, ◌&&◌}
-use lib.Dec.{leb}
+use mathlib.Core.Path.{◌≡◌, refl, sym, ◌∙◌, ap, subst}
+use mathlib.Core.Bool.{true, false, ◌&&◌, ◌||◌}
+use lib.Dec.{leb, eqb}
 use lib.IntN.{ℤ, pos}
 use lib.ListN.{length, take, length-append}
 use Rattle.grid.specs.Records.{Row, rows, pairs, most_records}
 use Rattle.grid.specs.Slices.{Laid}
 use Rattle.grid.specs.Times.{puts}
-use Rattle.grid.proofs.Tests.{by-test}
+use Rattle.grid.proofs.Tests.{by-test, and_l}
 use Rattle.grid.proofs.Operations.{put-length}
 use Rattle.grid.proofs.Ascending.{ascending_puts}
 use Rattle.grid.proofs.Slices.{laid_front, laid-length}
-use Rattle.rules.specs.Call.{Request, work_all, too_many, too_large, refused, worked, call}
+use Rattle.rules.specs.Call.{Request, check11, work_all, too_many, too_large, refused, worked, call}
 use Rattle.rules.specs.Discover.{most_moments}
 use Rattle.rules.specs.Memory.{numbers, diffs, leaves}
 use Rattle.rules.proofs.Statuses.{Works, fixes_found, verdict_none}
@@ -27,7 +28,7 @@ use Rattle.keys.specs.Changed.{LentKeys}
 use Rattle.answers.specs.Tells.{Tells, Concludes, concluded}
 use Rattle.answers.specs.declared.Course.{Course}
 use Rattle.answers.specs.declared.Outcome.{Outcome}
-use Rattle.turns.specs.Runs.{Runs}
+use Rattle.turns.specs.Runs.{Runs, Asked}
 use Rattle.turns.specs.Worked.{LentWork}
 use Rattle.looping.specs.Looped.{Looped, Loops, Ended}
 use Rattle.concluding.specs.Answered.{Answering, Answered, Few}
@@ -68,6 +69,20 @@ pub answered-same :
     {R : Runs} {mode width : ℕ} {lower held : List ℕ} {r : Outcome} {res s res' : List ℕ} {rd d rd' : List ℤ}
     → length s ≡ length res → length d ≡ length rd → Answered R mode width lower held r s res' d rd' → Answered R mode width lower held r res res' rd rd'
 answered-same {s = s} {d = d} h k A = record { answers = λ q W B f g. tells-same {s = s} {d = d} W h k (A.answers q W B f g) }
+
+-- ---- the mode that its number names
+mode_works : (q : Request) → Works q → (eqb q.mode 1 || eqb q.mode 2) ≡ true
+unfolding check11
+mode_works q W = and_l _ _ (and_l _ _ (and_l _ _ (and_l _ _ (and_l _ _ (and_l _ _ W.accepted.holds_11)))))
+
+pub answered-mode :
+    {R : Runs} {named mode width : ℕ} {lower held : List ℕ} {r : Outcome} {res res' : List ℕ} {rd rd' : List ℤ}
+    → ((eqb mode 1 || eqb mode 2) ≡ true → named ≡ mode) → Answered R named width lower held r res res' rd rd' → Answered R mode width lower held r res res' rd rd'
+answered-mode {R} {named} {mode} {width} n A = record {
+  answers = λ q W B f g.
+      let e : named ≡ mode = n (subst (λ (m : ℕ). (eqb m 1 || eqb m 2) ≡ true) B.mode_is (mode_works q W)) in
+      A.answers q W (subst (λ (m : ℕ). Asked q m width R (puts (R.new_keys ++ R.pending_keys) [])) (sym e) B) f g;
+}
 
 module _ {most : ℕ} {R : Runs} {width : ℕ} {lower held moments res : List ℕ} {rd : List ℤ} (A : Answering most R width lower held moments res rd) where
   abbrev found : List ℕ

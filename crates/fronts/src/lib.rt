@@ -2,12 +2,14 @@
 #![tactic(auto)]
 
 ghost use Rattle.std.specs.Prelude.{length, take};
+ghost use Rattle.backends.specs.Modes.{mode_number};
 ghost use Rattle.backends.specs.Segments.{segments};
 ghost use Rattle.moments.specs.Present.{edits};
 ghost use Rattle.moments.specs.Window.{parts_of};
 ghost use Rattle.mending.specs.Corrected.{Wide, Corrects, Corrected};
 ghost use Rattle.fronts.specs.Filled.{Full};
 
+use backends::Mode;
 use mending::correct_window;
 use progress::Progress;
 
@@ -25,7 +27,7 @@ pub struct Fronts {
 
 // Settles a window's rounds, from the fronts of the columns of what was found.
 pub fn correct_fronts(
-    mode: u64,
+    mode: Mode,
     keys: &[u64],
     moments: &[u64],
     tv: &[u64],
@@ -51,7 +53,7 @@ pub fn correct_fronts(
 ) -> Progress
     requires wide { Wide (length fk.old) uv.old ut.old ud.old iv.old id.old ov.old od.old cd.old res.old }
     requires full { Full f × Corrects (length fk.old) keys.now moments.now (take (length keys.now) f.mends) (take (length keys.now) f.ifrom) (take (length keys.now) f.ito) tv.now tt.now td.now (take (length keys.now) f.ofrom) (take (length keys.now) f.oto) outvalues.now outtimes.now outdiffs.now fk.old fv.old ft.old fd.old f.progress }
-    ensures { Corrected (length fk.old) mode keys.now (parts_of (take (length keys.now) f.ifrom) (take (length keys.now) f.ito) (edits tv.now tt.now td.now)) (parts_of (take (length keys.now) f.ofrom) (take (length keys.now) f.oto) (edits outvalues.now outtimes.now outdiffs.now)) (segments 0 (take (length keys.now) f.mends) moments.now) f.progress result fk.old fv.old ft.old fd.old fk.new fv.new ft.new fd.new }
+    ensures { Corrected (length fk.old) (mode_number mode) keys.now (parts_of (take (length keys.now) f.ifrom) (take (length keys.now) f.ito) (edits tv.now tt.now td.now)) (parts_of (take (length keys.now) f.ofrom) (take (length keys.now) f.oto) (edits outvalues.now outtimes.now outdiffs.now)) (segments 0 (take (length keys.now) f.mends) moments.now) f.progress result fk.old fv.old ft.old fd.old fk.new fv.new ft.new fd.new }
 {
     let n = keys.len();
     correct_window(

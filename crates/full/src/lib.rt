@@ -3,10 +3,12 @@
 
 ghost use Rattle.grid.specs.Records.{most_records};
 ghost use Rattle.requests.specs.Memory.{SameResults};
+ghost use Rattle.backends.specs.Modes.{mode_number};
 ghost use Rattle.concluding.specs.Lending.{runs_of};
 ghost use Rattle.concluding.specs.Answered.{Answering, Answered};
 
 use answers::{Outcome, conclude};
+use backends::Mode;
 use keys::changed_keys;
 use requests::{Pending, Request, ResultMemory, Run};
 use results::Scratch;
@@ -16,12 +18,13 @@ use windows::work_windows;
 // of them are scratch once more.
 pub fn answer_fully(
     q: &Request<'_>,
+    mode: Mode,
     input: &Run<'_>,
     moments: &mut [u64],
     results: &mut ResultMemory<'_>,
 ) -> Outcome
     requires { Answering most_records (runs_of q.now input.now) q.now.width q.now.frontiers.lower.now q.now.frontiers.held.now moments.old results.old.numbers.now results.old.diffs.now }
-    ensures answered { Answered (runs_of q.now input.now) q.now.mode q.now.width q.now.frontiers.lower.now q.now.frontiers.held.now result results.old.numbers.now results.new.numbers.now results.old.diffs.now results.new.diffs.now }
+    ensures answered { Answered (runs_of q.now input.now) (mode_number mode) q.now.width q.now.frontiers.lower.now q.now.frontiers.held.now result results.old.numbers.now results.new.numbers.now results.old.diffs.now results.new.diffs.now }
     ensures same { SameResults results.old results.new }
 {
     let mut keys = [0u64; 8192];
@@ -45,7 +48,7 @@ pub fn answer_fully(
     let mut ft = [0u64; 4096];
     let mut fd = [0i64; 4096];
     let c = work_windows(
-        q.mode,
+        mode,
         q.width as usize,
         q.frontiers.upper,
         &keys[..n],

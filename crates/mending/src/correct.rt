@@ -1,5 +1,6 @@
 // The rounds of a window, unless a limit was passed or the corrections are too large already.
 ghost use Rattle.std.specs.Prelude.{◌≡◌, length, MatchResult};
+ghost use Rattle.backends.specs.Modes.{mode_number};
 ghost use Rattle.backends.specs.Segments.{segments};
 ghost use Rattle.moments.specs.Present.{edits};
 ghost use Rattle.moments.specs.Window.{parts_of};
@@ -8,6 +9,7 @@ ghost use Rattle.fixing.specs.Settle.{WindowSettled, WindowOver};
 ghost use Rattle.fixing.specs.Windows.{LentRounds, Slotted};
 ghost use Rattle.mending.specs.Corrected.{Wide, Corrects, Corrected, Weighs};
 
+use backends::Mode;
 use fixing::TooLarge;
 use marks::{count_marks, longest};
 use plain::settle_plainly;
@@ -38,9 +40,9 @@ fn pays_to_replay(
     longest(mends) >= 8 && (least <= extent(from, to) || least <= extent(ofrom, oto))
 }
 
-// Settles the window's rounds, the faster way, and returns how many corrections there are.
+// Settles the window's rounds, the faster way, and returns how many corrections there are, or that they are too large.
 fn settle(
-    mode: u64,
+    mode: Mode,
     keys: &[u64],
     moments: &[u64],
     mends: &[usize],
@@ -71,7 +73,7 @@ fn settle(
     fixes: usize,
 ) -> Result<usize, TooLarge>
     requires { Slotted (length fk.old) (length keys.now) moments.now mends.now from.now to.now tv.now tt.now td.now ofrom.now oto.now outvalues.now outtimes.now outdiffs.now × LentRounds (length fk.old) uv.old ut.old ud.old iv.old id.old ov.old od.old cv.old cd.old marks.old fk.old fv.old ft.old fd.old fixes }
-    ensures { MatchResult result (λ r. WindowSettled (length fk.old) mode (slots_of keys.now (parts_of from.now to.now (edits tv.now tt.now td.now)) (parts_of ofrom.now oto.now (edits outvalues.now outtimes.now outdiffs.now)) (segments 0 mends.now moments.now)) fixes r marks.old marks.new fk.old fv.old ft.old fd.old fk.new fv.new ft.new fd.new) (λ _. WindowOver (length fk.old) mode (slots_of keys.now (parts_of from.now to.now (edits tv.now tt.now td.now)) (parts_of ofrom.now oto.now (edits outvalues.now outtimes.now outdiffs.now)) (segments 0 mends.now moments.now)) fixes) }
+    ensures { MatchResult result (λ r. WindowSettled (length fk.old) (mode_number mode) (slots_of keys.now (parts_of from.now to.now (edits tv.now tt.now td.now)) (parts_of ofrom.now oto.now (edits outvalues.now outtimes.now outdiffs.now)) (segments 0 mends.now moments.now)) fixes r marks.old marks.new fk.old fv.old ft.old fd.old fk.new fv.new ft.new fd.new) (λ _. WindowOver (length fk.old) (mode_number mode) (slots_of keys.now (parts_of from.now to.now (edits tv.now tt.now td.now)) (parts_of ofrom.now oto.now (edits outvalues.now outtimes.now outdiffs.now)) (segments 0 mends.now moments.now)) fixes) }
 {
     if pays_to_replay(mends, from, to, ofrom, oto) {
         settle_replayed(
@@ -89,7 +91,7 @@ fn settle(
 // Settles a window's rounds: its corrections are appended to those so far, and the rounds in which a key crossed are counted. The front of result memory
 // serves as a column of values.
 pub fn correct_window(
-    mode: u64,
+    mode: Mode,
     keys: &[u64],
     moments: &[u64],
     mends: &[usize],
@@ -120,7 +122,7 @@ pub fn correct_window(
 ) -> Progress
     requires wide { Wide (length fk.old) uv.old ut.old ud.old iv.old id.old ov.old od.old cd.old res.old }
     requires corrects { Corrects (length fk.old) keys.now moments.now mends.now from.now to.now tv.now tt.now td.now ofrom.now oto.now outvalues.now outtimes.now outdiffs.now fk.old fv.old ft.old fd.old p }
-    ensures { Corrected (length fk.old) mode keys.now (parts_of from.now to.now (edits tv.now tt.now td.now)) (parts_of ofrom.now oto.now (edits outvalues.now outtimes.now outdiffs.now)) (segments 0 mends.now moments.now) p result fk.old fv.old ft.old fd.old fk.new fv.new ft.new fd.new }
+    ensures { Corrected (length fk.old) (mode_number mode) keys.now (parts_of from.now to.now (edits tv.now tt.now td.now)) (parts_of ofrom.now oto.now (edits outvalues.now outtimes.now outdiffs.now)) (segments 0 mends.now moments.now) p result fk.old fv.old ft.old fd.old fk.new fv.new ft.new fd.new }
 {
     if is_done(p) {
         return p;

@@ -1,10 +1,12 @@
 // All rounds of a key.
 ghost use Rattle.std.specs.Prelude.{length, take, MatchResult};
+ghost use Rattle.backends.specs.Modes.{mode_number};
 ghost use Rattle.moments.specs.Present.{edits};
 ghost use Rattle.fixing.specs.Settle.{KeySettled, KeyOver};
 ghost use Rattle.plain.specs.Plain.{KeyAsks};
 
 use crate::round::turn_plainly;
+use backends::Mode;
 use fixing::TooLarge;
 use marks::mark;
 use times::{KeyHash, PackedTime};
@@ -12,7 +14,7 @@ use times::{KeyHash, PackedTime};
 // Settles the key's rounds at its moments, marks those in which it crosses, and returns how many corrections there are. Its old output are the first n
 // edits of uv, ut and ud.
 pub fn rounds_plainly(
-    mode: u64,
+    mode: Mode,
     key: KeyHash,
     moments: &[u64],
     values: &[u64],
@@ -36,7 +38,7 @@ pub fn rounds_plainly(
     fixes: usize,
 ) -> Result<usize, TooLarge>
     requires { KeyAsks (length fk.old) moments.now values.now times.now diffs.now n uv.old ut.old ud.old iv.old id.old ov.old od.old cv.old cd.old marks.old fk.old fv.old ft.old fd.old fixes }
-    ensures { MatchResult result (λ r. KeySettled (length fk.old) mode key.0 (edits values.now times.now diffs.now) (take n (edits uv.old ut.old ud.old)) moments.now fixes r marks.old marks.new fk.old fv.old ft.old fd.old fk.new fv.new ft.new fd.new) (λ _. KeyOver (length fk.old) mode key.0 (edits values.now times.now diffs.now) (take n (edits uv.old ut.old ud.old)) moments.now fixes) }
+    ensures { MatchResult result (λ r. KeySettled (length fk.old) (mode_number mode) key.0 (edits values.now times.now diffs.now) (take n (edits uv.old ut.old ud.old)) moments.now fixes r marks.old marks.new fk.old fv.old ft.old fd.old fk.new fv.new ft.new fd.new) (λ _. KeyOver (length fk.old) (mode_number mode) key.0 (edits values.now times.now diffs.now) (take n (edits uv.old ut.old ud.old)) moments.now fixes) }
 {
     let mut output = n;
     let mut fixes = fixes;

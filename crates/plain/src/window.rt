@@ -1,5 +1,6 @@
 // The keys of a window, one after the other.
 ghost use Rattle.std.specs.Prelude.{length, MatchResult};
+ghost use Rattle.backends.specs.Modes.{mode_number};
 ghost use Rattle.backends.specs.Segments.{segments};
 ghost use Rattle.moments.specs.Present.{edits};
 ghost use Rattle.moments.specs.Window.{parts_of};
@@ -8,13 +9,14 @@ ghost use Rattle.fixing.specs.Settle.{WindowSettled, WindowOver};
 ghost use Rattle.fixing.specs.Windows.{LentRounds, Slotted};
 
 use crate::key::rounds_plainly;
+use backends::Mode;
 use fixing::TooLarge;
 use rounds::append_edits;
 use times::KeyHash;
 
-// Settles the rounds of all keys of a window, and returns how many corrections there are. Key b's moments end at mends[b]; its input is from from[b] to to[b], its old output from ofrom[b] to oto[b].
+// Settles the rounds of all keys of a window, and returns how many corrections there are, or that they are too large. Key b's moments end at mends[b]; its input is from from[b] to to[b], its old output from ofrom[b] to oto[b].
 pub fn settle_plainly(
-    mode: u64,
+    mode: Mode,
     keys: &[u64],
     moments: &[u64],
     mends: &[usize],
@@ -45,7 +47,7 @@ pub fn settle_plainly(
     fixes: usize,
 ) -> Result<usize, TooLarge>
     requires { Slotted (length fk.old) (length keys.now) moments.now mends.now from.now to.now tv.now tt.now td.now ofrom.now oto.now outvalues.now outtimes.now outdiffs.now × LentRounds (length fk.old) uv.old ut.old ud.old iv.old id.old ov.old od.old cv.old cd.old marks.old fk.old fv.old ft.old fd.old fixes }
-    ensures { MatchResult result (λ r. WindowSettled (length fk.old) mode (slots_of keys.now (parts_of from.now to.now (edits tv.now tt.now td.now)) (parts_of ofrom.now oto.now (edits outvalues.now outtimes.now outdiffs.now)) (segments 0 mends.now moments.now)) fixes r marks.old marks.new fk.old fv.old ft.old fd.old fk.new fv.new ft.new fd.new) (λ _. WindowOver (length fk.old) mode (slots_of keys.now (parts_of from.now to.now (edits tv.now tt.now td.now)) (parts_of ofrom.now oto.now (edits outvalues.now outtimes.now outdiffs.now)) (segments 0 mends.now moments.now)) fixes) }
+    ensures { MatchResult result (λ r. WindowSettled (length fk.old) (mode_number mode) (slots_of keys.now (parts_of from.now to.now (edits tv.now tt.now td.now)) (parts_of ofrom.now oto.now (edits outvalues.now outtimes.now outdiffs.now)) (segments 0 mends.now moments.now)) fixes r marks.old marks.new fk.old fv.old ft.old fd.old fk.new fv.new ft.new fd.new) (λ _. WindowOver (length fk.old) (mode_number mode) (slots_of keys.now (parts_of from.now to.now (edits tv.now tt.now td.now)) (parts_of ofrom.now oto.now (edits outvalues.now outtimes.now outdiffs.now)) (segments 0 mends.now moments.now)) fixes) }
 {
     let mut start = 0;
     let mut fixes = fixes;

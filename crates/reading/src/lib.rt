@@ -56,7 +56,7 @@ struct Found {
     lines: Lines,
 }
 
-// What is counted: 1 for count, 2 for distinct.
+// What is wanted of a key, as the line says it: 1 for count, 2 for distinct.
 #[derive(Clone, Copy)]
 struct Mode(u64);
 

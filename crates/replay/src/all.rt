@@ -1,19 +1,21 @@
 // All rounds of a key, once it is loaded.
 ghost use Rattle.std.specs.Prelude.{length, take, MatchResult};
+ghost use Rattle.backends.specs.Modes.{mode_number};
 ghost use Rattle.moments.specs.Present.{edits};
 ghost use Rattle.fixing.specs.Settle.{KeySettled, KeyOver};
 ghost use Rattle.replay.specs.Replay.{RoundsAsk};
 
 use crate::Stage;
 use crate::turn::turn_replayed;
+use backends::Mode;
 use fixing::TooLarge;
 use marks::mark;
 use times::{KeyHash, PackedTime};
 
-// Settles the key's rounds, marks those in which it crosses, and returns how many corrections there are.
+// Settles the key's rounds, marks those in which it crosses, and returns how many corrections there are, or that they are too large.
 // The first e edits of xv, xt and xd are its input, and sv, st and sd its output, loaded.
 pub fn replay_rounds(
-    mode: u64,
+    mode: Mode,
     key: KeyHash,
     moments: &[u64],
     far: &[u64],
@@ -41,7 +43,7 @@ pub fn replay_rounds(
     fixes: usize,
 ) -> Result<usize, TooLarge>
     requires { RoundsAsk (length fk.old) moments.now far.now e sv.now st.now sd.now xv.old xt.old xd.old uv.old ut.old ud.old iv.old id.old ov.old od.old cv.old cd.old marks.old fk.old fv.old ft.old fd.old fixes }
-    ensures { MatchResult result (λ r. KeySettled (length fk.old) mode key.0 (take e (edits xv.old xt.old xd.old)) (edits sv.now st.now sd.now) moments.now fixes r marks.old marks.new fk.old fv.old ft.old fd.old fk.new fv.new ft.new fd.new) (λ _. KeyOver (length fk.old) mode key.0 (take e (edits xv.old xt.old xd.old)) (edits sv.now st.now sd.now) moments.now fixes) }
+    ensures { MatchResult result (λ r. KeySettled (length fk.old) (mode_number mode) key.0 (take e (edits xv.old xt.old xd.old)) (edits sv.now st.now sd.now) moments.now fixes r marks.old marks.new fk.old fv.old ft.old fd.old fk.new fv.new ft.new fd.new) (λ _. KeyOver (length fk.old) (mode_number mode) key.0 (take e (edits xv.old xt.old xd.old)) (edits sv.now st.now sd.now) moments.now fixes) }
 {
     let mut w = Stage {
         held: 0,

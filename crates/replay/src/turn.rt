@@ -1,9 +1,11 @@
 // One round of a key.
 ghost use Rattle.std.specs.Prelude.{length, MatchResult};
+ghost use Rattle.backends.specs.Modes.{mode_number};
 ghost use Rattle.moments.specs.Present.{edits};
 ghost use Rattle.replay.specs.Replay.{TurnAsks, TurnTaken, TurnOver};
 
 use crate::Stage;
+use backends::Mode;
 use fixing::{TooLarge, settle_moment};
 use gather::{append_dated, gather_from, gather_within};
 use moments::present;
@@ -12,7 +14,7 @@ use times::{KeyHash, PackedTime};
 // Settles the key's round at t. Its input, of which e edits were loaded, is held and ahead in xv, xt and xd; its output is held in uv, ut and ud, and
 // ahead in sv, st and sd. m is the meet of the moments from t on.
 pub fn turn_replayed(
-    mode: u64,
+    mode: Mode,
     key: KeyHash,
     t: PackedTime,
     m: PackedTime,
@@ -39,7 +41,7 @@ pub fn turn_replayed(
     w: Stage,
 ) -> Result<Stage, TooLarge>
     requires { TurnAsks (length fk.old) e sv.now st.now sd.now xv.old xt.old xd.old uv.old ut.old ud.old iv.old id.old ov.old od.old cv.old cd.old fk.old fv.old ft.old fd.old w }
-    ensures { MatchResult result (λ r. TurnTaken (length fk.old) mode key.0 t.0 m.0 e (edits sv.now st.now sd.now) (edits xv.old xt.old xd.old) (edits uv.old ut.old ud.old) w r (edits xv.new xt.new xd.new) (edits uv.new ut.new ud.new) fk.old fv.old ft.old fd.old fk.new fv.new ft.new fd.new) (λ _. TurnOver (length fk.old) mode key.0 t.0 m.0 e (edits sv.now st.now sd.now) (edits xv.old xt.old xd.old) (edits uv.old ut.old ud.old) w) }
+    ensures { MatchResult result (λ r. TurnTaken (length fk.old) (mode_number mode) key.0 t.0 m.0 e (edits sv.now st.now sd.now) (edits xv.old xt.old xd.old) (edits uv.old ut.old ud.old) w r (edits xv.new xt.new xd.new) (edits uv.new ut.new ud.new) fk.old fv.old ft.old fd.old fk.new fv.new ft.new fd.new) (λ _. TurnOver (length fk.old) (mode_number mode) key.0 t.0 m.0 e (edits sv.now st.now sd.now) (edits xv.old xt.old xd.old) (edits uv.old ut.old ud.old) w) }
 {
     let x = gather_within(t, m, w.at, e, w.held, xv, xt, xd, cv, iv, ov, od);
     let u = gather_from(

@@ -1,10 +1,12 @@
 // All rounds of a key.
 ghost use Rattle.std.specs.Prelude.{length, MatchResult};
+ghost use Rattle.backends.specs.Modes.{mode_number};
 ghost use Rattle.moments.specs.Present.{edits};
 ghost use Rattle.fixing.specs.Settle.{KeySettled, KeyOver};
 ghost use Rattle.fixing.specs.Windows.{LentRounds};
 ghost use Rattle.replaying.specs.Keyed.{KeyAsks};
 
+use backends::Mode;
 use fixing::TooLarge;
 use gather::load_key;
 use replay::replay_rounds;
@@ -12,7 +14,7 @@ use times::KeyHash;
 
 // Loads the key's input and output, settles its rounds, and returns how many corrections there are.
 pub fn replay_key(
-    mode: u64,
+    mode: Mode,
     key: KeyHash,
     moments: &[u64],
     values: &[u64],
@@ -45,7 +47,7 @@ pub fn replay_key(
     fixes: usize,
 ) -> Result<usize, TooLarge>
     requires { KeyAsks (length fk.old) moments.now values.now times.now diffs.now outvalues.now outtimes.now outdiffs.now far.old xv.old xt.old xd.old sv.old st.old sd.old × LentRounds (length fk.old) uv.old ut.old ud.old iv.old id.old ov.old od.old cv.old cd.old marks.old fk.old fv.old ft.old fd.old fixes }
-    ensures { MatchResult result (λ r. KeySettled (length fk.old) mode key.0 (edits values.now times.now diffs.now) (edits outvalues.now outtimes.now outdiffs.now) moments.now fixes r marks.old marks.new fk.old fv.old ft.old fd.old fk.new fv.new ft.new fd.new) (λ _. KeyOver (length fk.old) mode key.0 (edits values.now times.now diffs.now) (edits outvalues.now outtimes.now outdiffs.now) moments.now fixes) }
+    ensures { MatchResult result (λ r. KeySettled (length fk.old) (mode_number mode) key.0 (edits values.now times.now diffs.now) (edits outvalues.now outtimes.now outdiffs.now) moments.now fixes r marks.old marks.new fk.old fv.old ft.old fd.old fk.new fv.new ft.new fd.new) (λ _. KeyOver (length fk.old) (mode_number mode) key.0 (edits values.now times.now diffs.now) (edits outvalues.now outtimes.now outdiffs.now) moments.now fixes) }
 {
     if moments.is_empty() {
         return Ok(fixes);

@@ -1,16 +1,18 @@
 // One window's turn.
 ghost use Rattle.std.specs.Prelude.{length};
+ghost use Rattle.backends.specs.Modes.{mode_number};
 ghost use Rattle.turns.specs.Runs.{runs};
 ghost use Rattle.turns.specs.Worked.{LentWork, Takes, Turned};
 
 use crate::first::seek_fronts;
+use backends::Mode;
 use fronts::correct_fronts;
 use progress::Progress;
 
 // Finds a window's parts, moments and pended times, and settles its rounds. Columns of the rounds are scratch in the discovery, and the front of
 // result memory is scratch in both.
 pub fn work_window(
-    mode: u64,
+    mode: Mode,
     upper: &[u64],
     keys: &[u64],
     newkeys: &[u64],
@@ -49,7 +51,7 @@ pub fn work_window(
 ) -> Progress
     requires lent_work { LentWork (length fk.old) (length keys.now) moments.old uv.old ut.old ud.old iv.old id.old ov.old od.old cd.old wv.old seeds.old output.old tracked.old nk.old nt.old fk.old fv.old ft.old fd.old res.old }
     requires takes { Takes (length fk.old) (runs upper.now newkeys.now newtimes.now pendingkeys.now pendingtimes.now tk.now tv.now tt.now td.now outkeys.now outvalues.now outtimes.now outdiffs.now) keys.now p }
-    ensures { Turned (length fk.old) (runs upper.now newkeys.now newtimes.now pendingkeys.now pendingtimes.now tk.now tv.now tt.now td.now outkeys.now outvalues.now outtimes.now outdiffs.now) mode keys.now p nk.old nt.old fk.old fv.old ft.old fd.old nk.new nt.new fk.new fv.new ft.new fd.new result }
+    ensures { Turned (length fk.old) (runs upper.now newkeys.now newtimes.now pendingkeys.now pendingtimes.now tk.now tv.now tt.now td.now outkeys.now outvalues.now outtimes.now outdiffs.now) (mode_number mode) keys.now p nk.old nt.old fk.old fv.old ft.old fd.old nk.new nt.new fk.new fv.new ft.new fd.new result }
 {
     let f = seek_fronts(
         upper,

@@ -1,17 +1,19 @@
 // The windows of a call, from the first to the last.
 ghost use Rattle.std.specs.Prelude.{min, length};
+ghost use Rattle.backends.specs.Modes.{mode_number};
 ghost use Rattle.turns.specs.Runs.{runs};
 ghost use Rattle.turns.specs.Worked.{LentWork};
 ghost use Rattle.looping.specs.Looped.{Loops, Ended};
 
 use answers::Course;
+use backends::Mode;
 use looping::{course, window_end};
 use progress::Progress;
 use turns::work_window;
 
 // Works all windows of the changed keys. Once a limit is passed, the others are left out.
 pub fn work_windows(
-    mode: u64,
+    mode: Mode,
     width: usize,
     upper: &[u64],
     keys: &[u64],
@@ -50,7 +52,7 @@ pub fn work_windows(
 ) -> Course
     requires lent_work { LentWork (length fk.old) (min width (length keys.now)) moments.old uv.old ut.old ud.old iv.old id.old ov.old od.old cd.old wv.old seeds.old output.old tracked.old nk.old nt.old fk.old fv.old ft.old fd.old res.old }
     requires loops { Loops (length fk.old) (runs upper.now newkeys.now newtimes.now pendingkeys.now pendingtimes.now tk.now tv.now tt.now td.now outkeys.now outvalues.now outtimes.now outdiffs.now) width keys.now }
-    ensures { Ended (length fk.old) (runs upper.now newkeys.now newtimes.now pendingkeys.now pendingtimes.now tk.now tv.now tt.now td.now outkeys.now outvalues.now outtimes.now outdiffs.now) mode width keys.now nk.new nt.new fk.new fv.new ft.new fd.new result }
+    ensures { Ended (length fk.old) (runs upper.now newkeys.now newtimes.now pendingkeys.now pendingtimes.now tk.now tv.now tt.now td.now outkeys.now outvalues.now outtimes.now outdiffs.now) (mode_number mode) width keys.now nk.new nt.new fk.new fv.new ft.new fd.new result }
 {
     let n = keys.len();
     let mut p = 0;

@@ -5,6 +5,7 @@ ghost use Rattle.concluding.specs.Lending.{runs_of};
 ghost use Rattle.concluding.specs.Answered.{Answering, Answered};
 
 use answers::Outcome;
+use backends::mode_of;
 use brief::answer_briefly;
 use concluding::is_few;
 use full::answer_fully;
@@ -21,18 +22,19 @@ pub fn answer(
     ensures answered { Answered (runs_of q.now input.now) q.now.mode q.now.width q.now.frontiers.lower.now q.now.frontiers.held.now result results.old.numbers.now results.new.numbers.now results.old.diffs.now results.new.diffs.now }
     ensures same { SameResults results.old results.new }
 {
+    let mode = mode_of(q.mode);
     let few = is_few(
-        q.mode,
+        mode,
         q.new.keys.len(),
         q.pending.keys.len(),
         input.keys.len(),
         q.out.keys.len(),
     );
     if !few {
-        return answer_fully(q, input, moments, results);
+        return answer_fully(q, mode, input, moments, results);
     }
-    match answer_briefly(q, input, moments, results) {
+    match answer_briefly(q, mode, input, moments, results) {
         Some(outcome) => outcome,
-        None => answer_fully(q, input, moments, results),
+        None => answer_fully(q, mode, input, moments, results),
     }
 }

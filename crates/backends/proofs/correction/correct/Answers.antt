@@ -10,10 +10,10 @@ pub differ-requires-else-count-eq0 : goal.differ-requires-else-count-eq0
 differ-requires-else-count-eq0 c = ready_one c.requires _ (told_some c.total-count.type_inv c.total-count.ensures.0 c.if-count-eq0.false)
 
 pub returns-then-count-eq0 : goal.returns-then-count-eq0
-returns-then-count-eq0 c = end_none c.requires c.args.mode c.if-mode-eq1.true (told_none c.total-count.type_inv c.total-count.ensures.0 c.if-count-eq0.true) c.differ.ensures
+returns-then-count-eq0 c = end_none c.requires _ c.in-Count.is (told_none c.total-count.type_inv c.total-count.ensures.0 c.if-count-eq0.true) c.differ.ensures
 
 pub returns-else-count-eq0 : goal.returns-else-count-eq0
-returns-else-count-eq0 c = end_one c.requires c.args.mode _ c.if-mode-eq1.true (told_some c.total-count.type_inv c.total-count.ensures.0 c.if-count-eq0.false) (told_id c.total-count.type_inv c.total-count.ensures.0 c.count_id.ensures) c.differ-else-count-eq0.ensures
+returns-else-count-eq0 c = end_one c.requires _ _ c.in-Count.is (told_some c.total-count.type_inv c.total-count.ensures.0 c.if-count-eq0.false) (told_id c.total-count.type_inv c.total-count.ensures.0 c.count_id.ensures) c.differ-else-count-eq0.ensures
 
-pub returns-else-mode-eq1 : goal.returns-else-mode-eq1
-returns-else-mode-eq1 c = end_distinct c.requires c.args.mode c.if-mode-eq1.false c.differ-else-mode-eq1.ensures
+pub returns-in-Distinct : goal.returns-in-Distinct
+returns-in-Distinct c = end_distinct c.requires _ c.in-Distinct.is c.differ-in-Distinct.ensures

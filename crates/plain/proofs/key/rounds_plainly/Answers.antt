@@ -1,9 +1,10 @@
 use Rattle.std.proofs.lemmas.Result.{err_from_is_err_and}
+use Rattle.backends.specs.Modes.{mode_number}
 use Rattle.plain.proofs.Going.{going_start, going_asks, going_more, going_over, going_end}
 use Rattle.plain.proofs.key.rounds_plainly.Goals as goal
 
 pub loop-j-init : goal.loop-j-init
-loop-j-init c = going_start c.args.mode c.args.key.0 c.requires
+loop-j-init c = going_start (mode_number c.args.mode) c.args.key.0 c.requires
 
 pub turn_plainly-requires : goal.turn_plainly-requires
 turn_plainly-requires c = going_asks c.loop-j.invariant c.loop-j-test.true

@@ -1,10 +1,11 @@
 use Rattle.std.proofs.lemmas.Result.{err_from_is_err_and}
+use Rattle.backends.specs.Modes.{mode_number}
 use Rattle.plain.proofs.Settling.{plain_lays, plain_asks, plain_more, plain_over}
 use Rattle.fixing.proofs.Slotting.{slotting_start, slotting_end, slot_input, slot_output, slot_moments, slot_places}
 use Rattle.plain.proofs.window.settle_plainly.Goals as goal
 
 pub loop-b-init : goal.loop-b-init
-loop-b-init c = slotting_start c.args.mode c.requires.0 c.requires.1
+loop-b-init c = slotting_start (mode_number c.args.mode) c.requires.0 c.requires.1
 
 pub offset_bounds-outvalues-of : goal.offset_bounds-outvalues-of
 offset_bounds-outvalues-of c = record { fits = (slot_places c.loop-b.invariant c.loop-b-test.true).1.1 }

@@ -1,11 +1,12 @@
 use Rattle.std.proofs.lemmas.Result.{err_from_is_err_and}
 use mathlib.Core.Path.{sym}
+use Rattle.backends.specs.Modes.{mode_number}
 use Rattle.replaying.proofs.Settling.{loads_start, loads_again, replay_asks, replay_more, replay_over}
 use Rattle.fixing.proofs.Slotting.{slotting_start, slotting_end, slot_input, slot_output, slot_moments, slot_places}
 use Rattle.replaying.proofs.window.settle_replayed.Goals as goal
 
 pub loop-b-init : goal.loop-b-init
-loop-b-init c = (slotting_start c.args.mode c.requires.0 c.requires.1, loads_start)
+loop-b-init c = (slotting_start (mode_number c.args.mode) c.requires.0 c.requires.1, loads_start)
 
 pub offset_bounds-moments-start : goal.offset_bounds-moments-start
 offset_bounds-moments-start c = record { fits = (slot_places c.loop-b.invariant.0 c.loop-b-test.true).0 }

@@ -2,6 +2,7 @@ use borrow.Author.Rules.{rules}
 use borrow.Author.Tests.{not-true, not-false}
 use mathlib.Core.Bool.{true}
 use Rattle.grid.proofs.Tests.{clash}
+use Rattle.backends.specs.Modes.{mode_number}
 use Rattle.looping.proofs.Looping.{fresh}
 use Rattle.windows.proofs.Going.{same_more, going_start, going_less, going_asks, going_more, going_end}
 use mathlib.Core.Path.{◌≡◌, refl, sym, ◌∙◌}
@@ -9,7 +10,7 @@ use Rattle.windows.proofs.all.work_windows.Goals as goal
 use Rattle.windows.proofs.all.work_windows.Goals.{then-loop-p-test+else-not-w, else-loop-p-test}
 
 pub loop-p-init : goal.loop-p-init
-loop-p-init c = let e : c.default-w.result ≡ fresh = search rules in rw e (going_start c.args.mode c.requires.loops c.requires.lent_work)
+loop-p-init c = let e : c.default-w.result ≡ fresh = search rules in rw e (going_start (mode_number c.args.mode) c.requires.loops c.requires.lent_work)
 
 pub work_window-w-requires : goal.work_window-w-requires
 work_window-w-requires c =
