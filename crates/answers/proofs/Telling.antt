@@ -23,7 +23,6 @@ use Rattle.answers.proofs.Frontier.{frontier_found, frontier_over}
 use Rattle.results.specs.Told.{Told, Counted, Published, QuietTold, NothingTold, Ready, published}
 use Rattle.requests.specs.Statuses.{number_of}
 use Rattle.requests.specs.declared.status.Status.{Status}
-use Rattle.requests.specs.declared.status.Status.TheVariants.{Done, Quiet}
 use Rattle.results.specs.declared.worked.Counts.{Counts}
 use Rattle.answers.specs.Tells.{Tells, TellsQuiet, Concludes, concluded}
 use Rattle.answers.specs.declared.Outcome.{Outcome}
@@ -49,14 +48,14 @@ module _ {n : Counts} {res res' : List ℕ} {rd rd' : List ℤ} where
   unfolding refused
   nothing_tells status e t = counted_tells status refl (t.counted (number_of status)) (t.told (number_of status) e)
 
-  pub quiet_tells : {held pendkeys pendtimes : List ℕ} → QuietTold held pendkeys pendtimes res res' rd rd' n → TellsQuiet held pendkeys pendtimes (outcome Quiet 0 n) res res' rd rd'
+  pub quiet_tells : {held pendkeys pendtimes : List ℕ} → QuietTold held pendkeys pendtimes res res' rd rd' n → TellsQuiet held pendkeys pendtimes (outcome (record { 0 = 1 }) 0 n) res res' rd rd'
   unfolding quiet_answer
-  quiet_tells t = record { tells = λ q h p. counted_tells Quiet refl (t.counted q h p) (t.told q h p) }
+  quiet_tells t = record { tells = λ q h p. counted_tells (record { 0 = 1 }) refl (t.counted q h p) (t.told q h p) }
 
   pub worked_tells : {keys values times : List ℕ} {diffs : List ℤ} {pendkeys pendtimes frontier lower upper held : List ℕ} (crossings : ℕ) → Published keys values times diffs pendkeys pendtimes frontier lower upper held res res' rd rd' n
-      → Tells (published crossings lower upper held (rows keys values times diffs) (pairs pendkeys pendtimes) frontier) (outcome Done crossings n) res res' rd rd'
+      → Tells (published crossings lower upper held (rows keys values times diffs) (pairs pendkeys pendtimes) frontier) (outcome (record { 0 = 0 }) crossings n) res res' rd rd'
   unfolding published
-  worked_tells crossings t = counted_tells Done refl (t.counted crossings) (t.told crossings)
+  worked_tells crossings t = counted_tells (record { 0 = 0 }) refl (t.counted crossings) (t.told crossings)
 
 -- ---- which answer it is
 module _ (c : Course) (lower upper held : List ℕ) (rs : List Row) (ks ts : List ℕ) where

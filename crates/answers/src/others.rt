@@ -19,7 +19,7 @@ pub fn say_quiet(held: &[u64], pending: &Pending<'_>, results: &mut ResultMemory
 {
     let c = publish_quiet(held, pending, results);
     Outcome {
-        status: Status::Quiet,
+        status: Status::QUIET,
         crossings: 0,
         tiles: c.tiles,
         fixes: c.fixes,

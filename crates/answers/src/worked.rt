@@ -1,5 +1,5 @@
 // "18 over all keys before 19": the answer of a call whose windows are done.
-ghost use Rattle.std.specs.Prelude.{length, take};
+ghost use Rattle.std.specs.Prelude.{◌≡◌, length, take};
 ghost use Rattle.grid.specs.Records.{rows, pairs};
 ghost use Rattle.requests.specs.Memory.{SameResults};
 ghost use Rattle.results.specs.Told.{Ready, published};
@@ -24,12 +24,13 @@ fn say_worked(
     requires { Ready fixes.now.keys.now fixes.now.values.now fixes.now.times.now fixes.now.diffs.now c.fixes pending.now.keys.now pending.now.times.now c.pended frontier.now f.now.lower.now f.now.upper.now f.now.held.now scratch.tiles.now scratch.places.now scratch.work.now results.old.numbers.now results.old.diffs.now }
     ensures tells { Tells (published c.crossings f.now.lower.now f.now.upper.now f.now.held.now (rows (take c.fixes fixes.now.keys.now) (take c.fixes fixes.now.values.now) (take c.fixes fixes.now.times.now) (take c.fixes fixes.now.diffs.now)) (pairs (take c.pended pending.now.keys.now) (take c.pended pending.now.times.now)) frontier.now) result results.old.numbers.now results.new.numbers.now results.old.diffs.now results.new.diffs.now }
     ensures same { SameResults results.old results.new }
+    ensures kept { (length scratch.exit.0.now ≡ length scratch.entry.tiles.now) × ((length scratch.exit.1.0.now ≡ length scratch.entry.places.now) × (length scratch.exit.1.1.0.now ≡ length scratch.entry.work.now)) }
 {
     let n = publish(
         fixes, c.fixes, pending, c.pended, frontier, f, scratch, results,
     );
     Outcome {
-        status: Status::Done,
+        status: Status::DONE,
         crossings: c.crossings,
         tiles: n.tiles,
         fixes: n.fixes,
@@ -50,16 +51,17 @@ pub fn conclude(
     requires { Concludes (length fixes.now.keys.now) c f.now.lower.now f.now.upper.now f.now.held.now fixes.now.keys.now fixes.now.values.now fixes.now.times.now fixes.now.diffs.now pending.now.keys.now pending.now.times.now scratch.tiles.now scratch.places.now scratch.work.now results.old.numbers.now results.old.diffs.now }
     ensures tells { Tells (concluded c f.now.lower.now f.now.upper.now f.now.held.now (rows (take c.fixes fixes.now.keys.now) (take c.fixes fixes.now.values.now) (take c.fixes fixes.now.times.now) (take c.fixes fixes.now.diffs.now)) (pairs (take c.pended pending.now.keys.now) (take c.pended pending.now.times.now))) result results.old.numbers.now results.new.numbers.now results.old.diffs.now results.new.diffs.now }
     ensures same { SameResults results.old results.new }
+    ensures kept { (length scratch.exit.0.now ≡ length scratch.entry.tiles.now) × ((length scratch.exit.1.0.now ≡ length scratch.entry.places.now) × (length scratch.exit.1.1.0.now ≡ length scratch.entry.work.now)) }
 {
     if c.over {
-        return say_nothing(Status::OverLimit, results);
+        return say_nothing(Status::OVER_LIMIT, results);
     }
     let mut frontier = [0u64; 16];
     let Some(n) = minimal_times(&pending.times[..c.pended], &mut frontier) else {
-        return say_nothing(Status::OverLimit, results);
+        return say_nothing(Status::OVER_LIMIT, results);
     };
     if c.large {
-        return say_nothing(Status::TooLarge, results);
+        return say_nothing(Status::TOO_LARGE, results);
     }
     say_worked(f, fixes, pending, &frontier[..n], c, scratch, results)
 }

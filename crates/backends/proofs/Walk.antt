@@ -2,7 +2,7 @@
 --
 -- Differing: the entries before i of the input and before j of the output are dealt with, and what they give stands before k
 -- take_left, take_right, take_both, take_neither, pass_over, differing_end: the walk keeps that
--- here_v, here_d, in-*: the places that a turn reads and writes. neg_fits, neg_stored, one_fits, one_stored: the numbers that it makes. one_other, one_zero: the test of one for zero
+-- here_v, here_d, in-*: the places that a turn reads and writes. diff_small, stored_neg, stored_less: the numbers that it makes
 use Prim.Native.Nat.{ℕ, ◌+◌, ◌-◌, ◌<◌, ◌≤◌, ◌^◌}
 use native.Mathlib.Omega.{arith}
 use native.Mathlib.Numerals.{add-one}
@@ -10,13 +10,12 @@ use mathlib.Core.Bool.{true, false}
 use mathlib.Core.Path.{◌≡◌, sym, ◌∙◌, ap, subst}
 use mathlib.Core.List.{List, [], ◌∷◌}
 use lib.Dec.{ltb}
-use lib.IntN.{ℤ, pos, ◌+ℤ◌, ◌-ℤ◌, neg_ℤ, nat_abs, +ℤ_idl}
+use lib.IntN.{ℤ, pos, ◌+ℤ◌, neg_ℤ, nat_abs}
+use lib.Signed.{mag}
 use lib.ListN.{length, drop, get_or, set, drop_of_length-le}
 use mir.Syntax.{w64}
-use mir.Val.{to_z, of_z, SFits}
-use mir.Facts.{to_z-of_z}
-use borrow.Author.Tests.{eq-eqb, ne_eqb}
-use Rattle.grid.proofs.Signed.{zero_test}
+use mir.Val.{to_z, of_z}
+use Rattle.grid.proofs.Signed.{back}
 use Rattle.grid.specs.Consolidate.{is_zero, unless_zero}
 use Rattle.grid.proofs.Loops.{all_get_d}
 use Rattle.grid.proofs.Consolidate.{Canon}
@@ -27,7 +26,7 @@ use Rattle.backends.specs.declared.correction.Turn.TheVariants.{Input, Output, B
 use Rattle.backends.specs.Columns.{entries, values_of, Appended}
 use Rattle.backends.specs.Correct.{distinct_minus, turn, Ready}
 use Rattle.grid.proofs.Operations.{map-drop}
-use Rattle.diffs.proofs.Signed.{less_fits, less_is}
+use Rattle.diffs.proofs.Signed.{in_local}
 use Rattle.backends.proofs.Columns.{length-entries, values_entries, Filling, filling_is, filling_more, filling_end}
 use Rattle.backends.proofs.Turns.{canon_drop, left_step, right_step, both_step, pass_step, input_more, turn_in, turn_out}
 
@@ -106,26 +105,20 @@ module _ {iv : List ℕ} {id : List ℤ} {ov : List ℕ} {od : List ℤ} {at : �
   in_pass e = turn_in iv id i ov j same_i Unlisted e (λ z. cc)
 
   module _ (h : j < length od) where
-    diff_small : nat_abs (get_or od j (pos 0)) ≤ 2 ^ 62
-    diff_small = let a : nat_abs (get_or od j (pos 0)) ≤ 2 ^ 48 = all_get_d {P = modest} od j (pos 0) m.asks.small_o h in omega arith
+    diff-modest : nat_abs (get_or od j (pos 0)) ≤ 2 ^ 48
+    diff-modest = all_get_d {P = modest} od j (pos 0) m.asks.small_o h
 
-    pub neg_fits : SFits w64 (pos 0 -ℤ to_z w64 (of_z w64 (get_or od j (pos 0))))
-    neg_fits = less_fits 0 (get_or od j (pos 0)) (omega arith) diff_small
+    diff_local : to_z w64 (of_z w64 (get_or od j (pos 0))) ≡ get_or od j (pos 0)
+    diff_local = in_local (get_or od j (pos 0)) (let b : nat_abs (get_or od j (pos 0)) ≤ 2 ^ 48 = diff-modest in omega arith)
 
-    pub neg_stored : to_z w64 (of_z w64 (pos 0 -ℤ to_z w64 (of_z w64 (get_or od j (pos 0))))) ≡ neg_ℤ (get_or od j (pos 0))
-    neg_stored = less_is 0 (get_or od j (pos 0)) (omega arith) diff_small ∙ +ℤ_idl (neg_ℤ (get_or od j (pos 0)))
+    pub diff_small : modest (to_z w64 (of_z w64 (get_or od j (pos 0))))
+    diff_small = rw diff_local diff-modest
 
-    pub one_fits : SFits w64 (pos 1 -ℤ to_z w64 (of_z w64 (get_or od j (pos 0))))
-    one_fits = less_fits 1 (get_or od j (pos 0)) (omega arith) diff_small
+    pub stored_neg : {R : ℤ} → mag R < 2 ^ 63 → R ≡ neg_ℤ (to_z w64 (of_z w64 (get_or od j (pos 0)))) → to_z w64 (of_z w64 R) ≡ neg_ℤ (get_or od j (pos 0))
+    stored_neg b e = back b ∙ e ∙ ap neg_ℤ diff_local
 
-    pub one_stored : to_z w64 (of_z w64 (pos 1 -ℤ to_z w64 (of_z w64 (get_or od j (pos 0))))) ≡ pos 1 +ℤ neg_ℤ (get_or od j (pos 0))
-    one_stored = less_is 1 (get_or od j (pos 0)) (omega arith) diff_small
-
-    pub one_other : (of_z w64 (pos 1 -ℤ to_z w64 (of_z w64 (get_or od j (pos 0)))) ≡ 0 → ⊥) → is_zero (to_z w64 (of_z w64 (pos 1 -ℤ to_z w64 (of_z w64 (get_or od j (pos 0)))))) ≡ false
-    one_other n = ap is_zero (to_z-of_z one_fits) ∙ sym (zero_test _ one_fits) ∙ ne_eqb _ 0 n
-
-    pub one_zero : of_z w64 (pos 1 -ℤ to_z w64 (of_z w64 (get_or od j (pos 0)))) ≡ 0 → is_zero (to_z w64 (of_z w64 (pos 1 -ℤ to_z w64 (of_z w64 (get_or od j (pos 0)))))) ≡ true
-    one_zero e = ap is_zero (to_z-of_z one_fits) ∙ sym (zero_test _ one_fits) ∙ eq-eqb _ 0 e
+    pub stored_less : {R : ℤ} → mag R < 2 ^ 63 → R ≡ pos 1 +ℤ neg_ℤ (to_z w64 (of_z w64 (get_or od j (pos 0)))) → to_z w64 (of_z w64 R) ≡ pos 1 +ℤ neg_ℤ (get_or od j (pos 0))
+    stored_less b e = back b ∙ e ∙ ap (λ z. pos 1 +ℤ neg_ℤ z) diff_local
 
   -- a turn that writes (v, d), and one that writes nothing
   write : (i' j' : ℕ) (v : ℕ) (d : ℤ) → i + j < length iv + length ov → i' ≤ length iv → j' ≤ length ov → i + j < i' + j' → i ≤ i' → j ≤ j'

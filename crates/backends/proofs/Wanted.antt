@@ -7,7 +7,7 @@ use native.Mathlib.Omega.{arith}
 use mathlib.Core.Bool.{true, false}
 use mathlib.Core.Path.{◌≡◌, refl, sym, ap, subst}
 use mathlib.Core.List.{List, [], ◌∷◌, ◌++◌}
-use lib.Dec.{ltb}
+use lib.Dec.{ltb, eqb}
 use lib.IntN.{ℤ, pos, ◌+ℤ◌, nat_abs}
 use lib.ListN.{length}
 use Rattle.grid.specs.Consolidate.{is_zero, consolidate, total}
@@ -21,7 +21,6 @@ use Rattle.backends.specs.Columns.{entries, Appended}
 use Rattle.backends.specs.Correct.{distinct_minus, Ready, Segment}
 use Rattle.backends.specs.Modes.{mode_number}
 use Rattle.backends.specs.declared.mode.Mode.{Mode}
-use Rattle.backends.specs.declared.mode.Mode.TheVariants.{Count, Distinct}
 use Rattle.backends.proofs.Columns.{less}
 
 total-entries : (vs : List ℕ) (ds : List ℤ) → length ds ≡ length vs → total (entries vs ds) ≡ sum (λ x. x) ds
@@ -55,16 +54,16 @@ module _ {iv : List ℕ} {id : List ℤ} {ov : List ℕ} {od : List ℤ} {cv : L
     unfolding distinct_minus correction
     finish e q a = subst (λ (l : Sums). Appended cv cd at l v d r) (ap (λ l. consolidate ltb (l ++ minus (entries ov od))) q) a
 
-    pub end_distinct : mode ≡ Distinct → Appended cv cd at (distinct_minus (entries iv id) (entries ov od)) v d r → Appended cv cd at (correction (mode_number mode) (entries iv id) (entries ov od)) v d r
+    pub end_distinct : eqb (mode_number mode) 1 ≡ false → Appended cv cd at (distinct_minus (entries iv id) (entries ov od)) v d r → Appended cv cd at (correction (mode_number mode) (entries iv id) (entries ov od)) v d r
     unfolding wanted
     end_distinct m a = finish (entries iv id) (rw m refl) a
 
-    pub end_none : mode ≡ Count → is_zero (sum (λ x. x) id) ≡ true → Appended cv cd at (distinct_minus (entries [] []) (entries ov od)) v d r
+    pub end_none : eqb (mode_number mode) 1 ≡ true → is_zero (sum (λ x. x) id) ≡ true → Appended cv cd at (distinct_minus (entries [] []) (entries ov od)) v d r
         → Appended cv cd at (correction (mode_number mode) (entries iv id) (entries ov od)) v d r
     unfolding entries wanted count distinct
     end_none m z a = finish [] (rw (m, total-entries iv id s.ready.same_i, z) refl) a
 
-    pub end_one : (x : ℕ) → mode ≡ Count → is_zero (sum (λ x. x) id) ≡ false → x ≡ nat_abs (pos 9223372036854775808 +ℤ sum (λ x. x) id)
+    pub end_one : (x : ℕ) → eqb (mode_number mode) 1 ≡ true → is_zero (sum (λ x. x) id) ≡ false → x ≡ nat_abs (pos 9223372036854775808 +ℤ sum (λ x. x) id)
         → Appended cv cd at (distinct_minus (entries (x ∷ []) (pos 1 ∷ [])) (entries ov od)) v d r → Appended cv cd at (correction (mode_number mode) (entries iv id) (entries ov od)) v d r
     unfolding entries wanted count distinct listed
     end_one x m z e a = finish ((x, pos 1) ∷ []) (rw (m, total-entries iv id s.ready.same_i, z) (ap (λ y. (y, pos 1) ∷ []) e)) a

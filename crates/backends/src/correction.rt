@@ -7,7 +7,7 @@ ghost use Rattle.backends.specs.Modes.{mode_number};
 
 use crate::listed::is_listed;
 use crate::mode::Mode;
-use diffs::{count_id, total};
+use diffs::{count_id, is_zero, negated, one_less, total};
 use std::cmp::Ordering;
 
 // Which of the two least entries the walk takes: the input's, the output's, both, or the input's, which is not listed.
@@ -66,13 +66,13 @@ fn differ(
             }
             Turn::Output => {
                 cv[k] = ov[j];
-                cd[k] = -od[j];
+                cd[k] = negated(od[j]);
                 j += 1;
                 k += 1;
             }
             Turn::Both => {
-                let e = 1 - od[j];
-                if e != 0 {
+                let e = one_less(od[j]);
+                if !is_zero(e) {
                     cv[k] = iv[i];
                     cd[k] = e;
                     k += 1;
@@ -100,15 +100,13 @@ pub fn correct(
     requires { Segment iv.now id.now ov.now od.now cv.old cd.old at }
     ensures { Appended cv.old cd.old at (correction (mode_number mode) (entries iv.now id.now) (entries ov.now od.now)) cv.new cd.new result }
 {
-    match mode {
-        Mode::Count => {
-            let count = total(id);
-            if count == 0 {
-                differ(&[], &[], ov, od, cv, cd, at)
-            } else {
-                differ(&[count_id(count)], &[1], ov, od, cv, cd, at)
-            }
-        }
-        Mode::Distinct => differ(iv, id, ov, od, cv, cd, at),
+    if !mode.counts() {
+        return differ(iv, id, ov, od, cv, cd, at);
+    }
+    let count = total(id);
+    if is_zero(count) {
+        differ(&[], &[], ov, od, cv, cd, at)
+    } else {
+        differ(&[count_id(count)], &[1], ov, od, cv, cd, at)
     }
 }

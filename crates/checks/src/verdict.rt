@@ -21,15 +21,15 @@ fn times_verdict(q: &Request<'_>) -> Status
     ensures { number_of result ≡ times_verdict q.now.frontiers.lower.now q.now.frontiers.upper.now q.now.frontiers.held.now q.now.old.times.now q.now.new.times.now q.now.out.times.now q.now.pending.times.now }
 {
     if !places::are_placed(q) {
-        Status::Misplaced
+        Status::MISPLACED
     } else if !places::are_held(q) {
-        Status::NotHeld
+        Status::NOT_HELD
     } else if places::all_beyond(q.frontiers.upper, q.frontiers.held) {
-        Status::Quiet
+        Status::QUIET
     } else if is_unchanged(q) {
-        Status::Unchanged
+        Status::UNCHANGED
     } else {
-        Status::Done
+        Status::DONE
     }
 }
 
@@ -40,9 +40,9 @@ fn records_verdict(q: &Request<'_>) -> Status
     ensures { number_of result ≡ records_verdict q.now.frontiers.lower.now q.now.frontiers.upper.now q.now.frontiers.held.now (columns_of q.now.old) (columns_of q.now.new) (columns_of q.now.out) q.now.pending.keys.now q.now.pending.times.now }
 {
     if !order::are_good_runs(q) {
-        Status::OutOfOrder
+        Status::OUT_OF_ORDER
     } else if !order::pending_ascends(&q.pending) {
-        Status::PendingOutOfOrder
+        Status::PENDING_OUT_OF_ORDER
     } else {
         times_verdict(q)
     }
@@ -55,11 +55,11 @@ fn verdict(q: &Request<'_>) -> Status
     ensures { number_of result ≡ columns_verdict q.now.mode q.now.width q.now.frontiers.lower.now q.now.frontiers.upper.now q.now.frontiers.held.now (columns_of q.now.old) (columns_of q.now.new) (columns_of q.now.out) q.now.pending.keys.now q.now.pending.times.now }
 {
     if !lengths::are_sized(q) {
-        Status::Short
+        Status::SHORT
     } else if !places::are_frontiers(&q.frontiers) {
-        Status::NotFrontiers
+        Status::NOT_FRONTIERS
     } else if !places::are_above(&q.frontiers) {
-        Status::BelowLower
+        Status::BELOW_LOWER
     } else {
         records_verdict(q)
     }
@@ -72,6 +72,6 @@ pub fn status_before_work(q: &Request<'_>, sizes: &[usize], lengths: &[usize]) -
     if lengths::are_level(q) && lengths::is_room(sizes, lengths) {
         verdict(q)
     } else {
-        Status::Short
+        Status::SHORT
     }
 }

@@ -1,55 +1,98 @@
--- A key's correction, appended as records.
+-- The loop that appends a key's correction as records.
 --
--- rows_put: columns in which a part holds the columns of the records
-use Prim.Native.Nat.{ℕ, ◌+◌}
+-- RowsWriting: of the records of `goal`, `rest` are still to be written. rows_start, rows_more, rows_end: one record written, all
+-- Noting: the entries before i are written, and end at k. noting_start, noting_more, noting_end: the loop keeps that. in-*: what a turn asks
+use Prim.Native.Nat.{ℕ, ◌+◌, ◌<◌, ◌≤◌}
 use native.Mathlib.Omega.{arith}
-use mathlib.Core.Path.{◌≡◌, refl, sym, ◌∙◌, ap}
+use mathlib.Core.Path.{◌≡◌, sym, ◌∙◌, ap}
 use mathlib.Core.List.{List, [], ◌∷◌, map}
-use lib.IntN.{ℤ}
-use lib.ListN.{length, replicate, length-replicate, length-take, length-drop}
-use borrow.Rule.Slice.PartMut.{put_mid, mid_of}
+use lib.IntN.{ℤ, pos}
+use lib.ListN.{length, drop, get_or, set, drop_of_length-le}
 use Rattle.grid.specs.Records.{Row}
-use Rattle.rules.specs.Backends.{Sums}
-use Rattle.backends.specs.Columns.{entries, values_of, diffs_of}
-use Rattle.backends.proofs.Columns.{length-entries, values_entries, diffs_entries, column_put}
-use Rattle.fixing.specs.Fixes.{fix_rows, RowsListed, Appends}
+use Rattle.grid.proofs.Loops.{drop_more}
+use Rattle.backends.specs.Columns.{entries}
+use Rattle.backends.proofs.Columns.{length-entries, get_or-entries, Writing, writing_start, writing_more, writing_end}
+use Rattle.fixing.specs.Fixes.{fix_row, fix_rows, RowsListed, Appends}
 
--- ---- the columns of the records
-module _ (key t : ℕ) where
-  keys_are : (c : Sums) → map (λ (x : Row). x.key) (fix_rows key t c) ≡ replicate (length c) key
+pub record RowsWriting (fk₀ fv₀ ft₀ : List ℕ) (fd₀ : List ℤ) (at : ℕ) (goal : List Row) (fk fv ft : List ℕ) (fd : List ℤ) (k : ℕ) (rest : List Row) : Type 0 where
+  pub keys : Writing fk₀ at (map (λ (x : Row). x.key) goal) fk k (map (λ (x : Row). x.key) rest)
+  pub values : Writing fv₀ at (map (λ (x : Row). x.value) goal) fv k (map (λ (x : Row). x.value) rest)
+  pub times : Writing ft₀ at (map (λ (x : Row). x.time) goal) ft k (map (λ (x : Row). x.time) rest)
+  pub diffs : Writing fd₀ at (map (λ (x : Row). x.diff) goal) fd k (map (λ (x : Row). x.diff) rest)
+
+rows_start : (fk fv ft : List ℕ) (fd : List ℤ) (at : ℕ) (goal : List Row) → RowsWriting fk fv ft fd at goal fk fv ft fd at goal
+rows_start fk fv ft fd at goal = record {
+  keys = writing_start fk at (map (λ (x : Row). x.key) goal);
+  values = writing_start fv at (map (λ (x : Row). x.value) goal);
+  times = writing_start ft at (map (λ (x : Row). x.time) goal);
+  diffs = writing_start fd at (map (λ (x : Row). x.diff) goal);
+}
+
+module _ {fk₀ fv₀ ft₀ : List ℕ} {fd₀ : List ℤ} {at : ℕ} {goal : List Row} {fk fv ft : List ℕ} {fd : List ℤ} {k : ℕ} {rest : List Row} (w : RowsWriting fk₀ fv₀ ft₀ fd₀ at goal fk fv ft fd k rest) where
+  rows_more : (x : Row) {rest' : List Row} → k < length fk → k < length fv → k < length ft → k < length fd → rest ≡ x ∷ rest'
+      → RowsWriting fk₀ fv₀ ft₀ fd₀ at goal (set fk k x.key) (set fv k x.value) (set ft k x.time) (set fd k x.diff) (k + 1) rest'
+  rows_more x a b c d e = record {
+    keys = writing_more w.keys x.key a (ap (map (λ (x : Row). x.key)) e);
+    values = writing_more w.values x.value b (ap (map (λ (x : Row). x.value)) e);
+    times = writing_more w.times x.time c (ap (map (λ (x : Row). x.time)) e);
+    diffs = writing_more w.diffs x.diff d (ap (map (λ (x : Row). x.diff)) e);
+  }
+
+  rows_end : rest ≡ [] → RowsListed fk₀ fv₀ ft₀ fd₀ at goal fk fv ft fd k
+  rows_end e = record {
+    keys = writing_end w.keys (ap (map (λ (x : Row). x.key)) e);
+    values = writing_end w.values (ap (map (λ (x : Row). x.value)) e);
+    times = writing_end w.times (ap (map (λ (x : Row). x.time)) e);
+    diffs = writing_end w.diffs (ap (map (λ (x : Row). x.diff)) e);
+  }
+
+-- ---- the loop
+pub record Noting (key t : ℕ) (cv : List ℕ) (cd : List ℤ) (at : ℕ) (fk₀ fv₀ ft₀ : List ℕ) (fd₀ : List ℤ) (fk fv ft : List ℕ) (fd : List ℤ) (i k : ℕ) : Type 0 where
+  pub asks : Appends cv cd fk₀ fv₀ ft₀ fd₀ at
+  pub within : i ≤ length cv
+  pub even : k ≡ at + i
+  pub rows : RowsWriting fk₀ fv₀ ft₀ fd₀ at (fix_rows key t (entries cv cd)) fk fv ft fd k (fix_rows key t (drop i (entries cv cd)))
+
+pub noting_start : {cv : List ℕ} {cd : List ℤ} {fk fv ft : List ℕ} {fd : List ℤ} {at : ℕ} (key t : ℕ) → Appends cv cd fk fv ft fd at → Noting key t cv cd at fk fv ft fd fk fv ft fd 0 at
+noting_start {cv} {cd} {fk} {fv} {ft} {fd} {at} key t a = record { asks = a; within = omega arith; even = omega arith; rows = rows_start fk fv ft fd at (fix_rows key t (entries cv cd)) }
+
+module _ {key t : ℕ} {cv : List ℕ} {cd : List ℤ} {at : ℕ} {fk₀ fv₀ ft₀ : List ℕ} {fd₀ : List ℤ} {fk fv ft : List ℕ} {fd : List ℤ} {i k : ℕ}
+    (m : Noting key t cv cd at fk₀ fv₀ ft₀ fd₀ fk fv ft fd i k) where
+  module _ (h : i < length cv) where
+    pub in_diffs_lem : i < length cd
+    in_diffs_lem = let e : length cd ≡ length cv = m.asks.same_c in omega arith
+
+    room : k < length fk₀
+    room = let r : at + length cv ≤ length fk₀ = m.asks.room in let e : k ≡ at + i = m.even in omega arith
+
+    pub in_fk : k < length fk
+    in_fk = let r : k < length fk₀ = room in let s : length fk ≡ length fk₀ = m.rows.keys.same in omega arith
+
+    pub in_fv : k < length fv
+    in_fv = let r : k < length fk₀ = room in let s : length fv ≡ length fv₀ = m.rows.values.same in let q : length fv₀ ≡ length fk₀ = m.asks.same_v in omega arith
+
+    pub in_ft : k < length ft
+    in_ft = let r : k < length fk₀ = room in let s : length ft ≡ length ft₀ = m.rows.times.same in let q : length ft₀ ≡ length fk₀ = m.asks.same_t in omega arith
+
+    pub in_fd : k < length fd
+    in_fd = let r : k < length fk₀ = room in let s : length fd ≡ length fd₀ = m.rows.diffs.same in let q : length fd₀ ≡ length fk₀ = m.asks.same_d in omega arith
+
+    pub noting_more : (d : ℤ) → d ≡ get_or cd i (pos 0) → Noting key t cv cd at fk₀ fv₀ ft₀ fd₀ (set fk k key) (set fv k (get_or cv i 0)) (set ft k t) (set fd k d) (i + 1) (k + 1)
+    unfolding fix_rows
+    noting_more d q =
+        let e : k ≡ at + i = m.even in
+        let l : length (entries cv cd) ≡ length cv = length-entries cv cd m.asks.same_c in
+        let s : drop i (entries cv cd) ≡ (get_or cv i 0, d) ∷ drop (i + 1) (entries cv cd) =
+        drop_more (entries cv cd) i (0, pos 0) (omega arith) ∙ ap (λ z. z ∷ drop (i + 1) (entries cv cd)) (get_or-entries cv cd i m.asks.same_c ∙ ap (λ z. (get_or cv i 0, z)) (sym q)) in
+        record {
+          asks = m.asks;
+          within = omega arith;
+          even = omega arith;
+          rows = rows_more m.rows (fix_row key t (get_or cv i 0, d)) in_fk in_fv in_ft in_fd (ap (map (fix_row key t)) s);
+        }
+
+  pub noting_end : length cv ≤ i → RowsListed fk₀ fv₀ ft₀ fd₀ at (fix_rows key t (entries cv cd)) fk fv ft fd k
   unfolding fix_rows
-  keys_are [] = refl
-  keys_are (y ∷ c) = ap (λ l. key ∷ l) (keys_are c)
-
-  values_are : (c : Sums) → map (λ (x : Row). x.value) (fix_rows key t c) ≡ values_of c
-  unfolding fix_rows
-  values_are [] = refl
-  values_are (y ∷ c) = ap (λ l. y.0 ∷ l) (values_are c)
-
-  times_are : (c : Sums) → map (λ (x : Row). x.time) (fix_rows key t c) ≡ replicate (length c) t
-  unfolding fix_rows
-  times_are [] = refl
-  times_are (y ∷ c) = ap (λ l. t ∷ l) (times_are c)
-
-  diffs_are : (c : Sums) → map (λ (x : Row). x.diff) (fix_rows key t c) ≡ diffs_of c
-  unfolding fix_rows
-  diffs_are [] = refl
-  diffs_are (y ∷ c) = ap (λ l. y.1 ∷ l) (diffs_are c)
-
--- ---- what is written
-module _ {cv : List ℕ} {cd : List ℤ} {fk fv ft : List ℕ} {fd : List ℤ} {at : ℕ} (a : Appends cv cd fk fv ft fd at) (key t : ℕ) {fk' fv' ft' : List ℕ} {fd' : List ℤ} {k r : ℕ} where
-  pub rows_put : fk' ≡ replicate (length (mid_of at k fk)) key → fv' ≡ cv → ft' ≡ replicate (length (mid_of at k ft)) t → fd' ≡ cd → k ≡ length cv → r ≡ at + k
-      → RowsListed fk fv ft fd at (fix_rows key t (entries cv cd)) (put_mid at k fk fk') (put_mid at k fv fv') (put_mid at k ft ft') (put_mid at k fd fd') r
-  rows_put p q s u l e =
-      let c = entries cv cd in
-      let n : length c ≡ k = length-entries cv cd a.same_c ∙ sym l in
-      let nk : length (mid_of at k fk) ≡ length c = rw (length-take, length-drop) (omega (arith, a.room)) in
-      let nt : length (mid_of at k ft) ≡ length c = rw (length-take, length-drop) (omega (arith, a.room, a.same_t)) in
-      let v = values_are key t c ∙ values_entries cv cd a.same_c in
-      let d = diffs_are key t c ∙ diffs_entries cv cd a.same_c in
-      record {
-        keys = column_put (p ∙ ap (λ m. replicate m key) nk ∙ sym (keys_are key t c)) (rw keys_are (length-replicate _ _ ∙ n)) (omega (arith, a.room)) e;
-        values = column_put (q ∙ sym v) (rw v (sym l)) (omega (arith, a.room, a.same_v)) e;
-        times = column_put (s ∙ ap (λ m. replicate m t) nt ∙ sym (times_are key t c)) (rw times_are (length-replicate _ _ ∙ n)) (omega (arith, a.room, a.same_t)) e;
-        diffs = column_put (u ∙ sym d) (rw d (omega (arith, a.same_c))) (omega (arith, a.room, a.same_d)) e;
-      }
+  noting_end h =
+      let l : length (entries cv cd) ≡ length cv = length-entries cv cd m.asks.same_c in
+      rows_end m.rows (ap (map (fix_row key t)) (drop_of_length-le (entries cv cd) {i = i} (omega arith)))

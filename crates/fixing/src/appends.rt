@@ -19,10 +19,17 @@ pub fn append_fixes(
     requires { Appends cv.now cd.now fk.old fv.old ft.old fd.old at }
     ensures { RowsListed fk.old fv.old ft.old fd.old at (fix_rows key.0 t.0 (entries cv.now cd.now)) fk.new fv.new ft.new fd.new result }
 {
-    let end = at + cv.len();
-    fk[at..end].fill(key.0);
-    fv[at..end].copy_from_slice(cv);
-    ft[at..end].fill(t.0);
-    fd[at..end].copy_from_slice(cd);
-    end
+    let mut i = 0;
+    let mut k = at;
+    // There is mostly one to append, for which this costs less than a copy of each column.
+    while i < cv.len() {
+        fk[k] = key.0;
+        fv[k] = cv[i];
+        ft[k] = t.0;
+        let d = cd[i];
+        fd[k] = d;
+        i += 1;
+        k += 1;
+    }
+    k
 }

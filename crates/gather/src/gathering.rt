@@ -86,9 +86,16 @@ pub fn append_dated(
     requires { Dates cv.now cd.now uv.old ut.old ud.old at }
     ensures { Rows uv.old ut.old ud.old at (dated t.0 (entries cv.now cd.now)) uv.new ut.new ud.new result }
 {
-    let end = at + cv.len();
-    uv[at..end].copy_from_slice(cv);
-    ut[at..end].fill(t.0);
-    ud[at..end].copy_from_slice(cd);
-    end
+    let mut i = 0;
+    let mut k = at;
+    // There is mostly one to append, for which this costs less than a copy of each column.
+    while i < cv.len() {
+        uv[k] = cv[i];
+        ut[k] = t.0;
+        let d = cd[i];
+        ud[k] = d;
+        i += 1;
+        k += 1;
+    }
+    k
 }

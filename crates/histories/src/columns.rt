@@ -8,18 +8,25 @@ ghost use Rattle.times.specs.Meets.{optional};
 
 use times::{PackedTime, joined};
 
+// The entries from a place on, none past the end. A chain that skips walks what it skips.
+pub fn rest(column: &[u64], at: usize) -> &[u64]
+    ensures { result.now ≡ drop at column.now }
+{
+    column.get(at..).unwrap_or(&[])
+}
+
 // Where the times equal to n end, from the place `at` on.
 pub fn end_of_equal(times: &[u64], at: usize, n: PackedTime) -> usize
     ensures { result ≡ at + length (front (eqb n.0) (drop at times.now)) }
 {
-    at + times.iter().skip(at).take_while(|t| n.0 == **t).count()
+    at + rest(times, at).iter().take_while(|t| n.0 == **t).count()
 }
 
 // Where the times up to n, in ascending order, end, from the place `at` on.
 pub fn end_through(column: &[u64], at: usize, n: PackedTime) -> usize
     ensures { result ≡ at + length (front (λ t. leb t n.0) (drop at column.now)) }
 {
-    at + column.iter().skip(at).take_while(|t| **t <= n.0).count()
+    at + rest(column, at).iter().take_while(|t| **t <= n.0).count()
 }
 
 // Moves the entries from `at` up to `to` down to the place `count`.

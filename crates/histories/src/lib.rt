@@ -7,7 +7,7 @@ ghost use Rattle.std.specs.Prelude.{◌≡◌, ◌+◌, ◌-◌, ◌≤◌, ltb}
 mod columns;
 mod time_history;
 
-pub use columns::{copy_joined, end_of_equal, end_through, join_each, move_down};
+pub use columns::{copy_joined, end_of_equal, end_through, join_each, move_down, rest};
 pub use time_history::{
     advance_buffer_by, head_of, load_times, meet_ahead, step_through, step_while_time_is,
     suffix_meets,

@@ -5,20 +5,25 @@ ghost use Rattle.backends.specs.Segments.{part};
 ghost use Rattle.keys.specs.Spans.{Spans, Within};
 
 use crate::Span;
+use histories::rest;
 use times::KeyHash;
 
 // Where the keys below a key end, from the place `start` on.
 fn end_below(keys: &[u64], start: usize, key: KeyHash) -> usize
     ensures { result ≡ start + length (front (λ x. ltb x key.0) (drop start keys.now)) }
 {
-    start + keys.iter().skip(start).take_while(|x| **x < key.0).count()
+    start + rest(keys, start).iter().take_while(|x| **x < key.0).count()
 }
 
 // Where the keys equal to a key end, from the place `start` on.
 pub fn end_equal(keys: &[u64], start: usize, key: KeyHash) -> usize
     ensures { result ≡ start + length (front (eqb key.0) (drop start keys.now)) }
 {
-    start + keys.iter().skip(start).take_while(|x| key.0 == **x).count()
+    start
+        + rest(keys, start)
+            .iter()
+            .take_while(|x| key.0 == **x)
+            .count()
 }
 
 // A key's part of a run. The keys that one asks for ascend, so that each search goes on where the last one ended.

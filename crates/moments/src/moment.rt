@@ -23,7 +23,8 @@ fn run_end(values: &[u64], from: usize, v: u64) -> usize
     requires { from ≤ length values.now }
     ensures { result ≡ from + length (front (λ x. eqb x v) (drop from values.now)) }
 {
-    from + values.iter().skip(from).take_while(|x| **x == v).count()
+    let ahead = &values[from..];
+    from + ahead.iter().take_while(|x| **x == v).count()
 }
 
 // The sum of the diffs at times at or below t.

@@ -396,8 +396,14 @@ module _ {most e : ℕ} {sv st : List ℕ} {sd : List ℤ} {xv xt : List ℕ} {x
           rows_are = fix-rows k mode I O t crossing
 
           pub over_taken : {cv₂ cv₃ : List ℕ} {cd₃ : List ℤ} → OverAt most k t (correction mode (entries (take (a - 0) iv₃) (take (a - 0) id₃)) (entries (take (b - 0) ov₃) (take (b - 0) od₃))) cv₂ cd w.fixes cv₃ cd₃
-              → TurnOver most mode k t m e (edits sv st sd) (edits xv xt xd) (edits uv ut ud) w
-          over_taken o = sym (ap (λ c. rows_too_large most w.fixes (fix_rows k t c)) given ∙ ap (rows_too_large most w.fixes) rows_are) ∙ o.large_is
+              → TurnOver most mode k t m e (edits sv st sd) (edits xv xt xd) (edits uv ut ud) w (edits xv₁ xt₁ xd₁)
+          over_taken o = record {
+            large_is = sym (ap (λ c. rows_too_large most w.fixes (fix_rows k t c)) given ∙ ap (rows_too_large most w.fixes) rows_are) ∙ o.large_is;
+            crosses = sym (crossed_is mode I O t) ∙ crossing;
+            held_is = (h.count, g.held_is);
+            ahead_is = (h.at, g.ahead_is);
+            out_is = (u.at, f.ahead_is);
+          }
 
           module _ {cv₂ cv₃ : List ℕ} {cd₃ : List ℤ} {r : Fixed} {fk₃ fv₃ ft₃ : List ℕ} {fd₃ : List ℤ}
               (F : FixedAt most k t (correction mode (entries (take (a - 0) iv₃) (take (a - 0) id₃)) (entries (take (b - 0) ov₃) (take (b - 0) od₃))) cv₂ cd w.fixes r cv₃ cd₃ fk fv ft fd fk₃ fv₃ ft₃ fd₃) where

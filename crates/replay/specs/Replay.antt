@@ -3,7 +3,7 @@
 --
 -- most: for how many corrections there is room
 -- Staged: where a key's replay stands in its columns. TurnAsks: what a round asks. TurnTaken: what it leaves. TurnOver: with it the corrections
--- are too large
+-- are too large, and what is gathered is held all the same
 -- RoundsAsk: what all rounds ask once the key is loaded
 use Rattle.std.specs.Prelude.{ℕ, ◌+◌, ◌-◌, ◌*◌, ◌≤◌, ◌^◌, true, false, List, ◌++◌, ◌≡◌, ℤ, nat_abs, length, take, drop}
 use Rattle.grid.specs.Lists.{past}
@@ -67,8 +67,12 @@ pub record TurnTaken (most mode k t m e : ℕ) (ss xs us : List Edit) (w r : Sta
   pub out_is : drop r.out ss ≡ past (up_to t) (drop w.out ss)
   pub staged : Staged most e ss xs' us' r
 
-abbrev pub TurnOver : ℕ → ℕ → ℕ → ℕ → ℕ → ℕ → List Edit → List Edit → List Edit → Stage → Type 0
-TurnOver most mode k t m e ss xs us w = rows_too_large most w.fixes (rows_in k (round_at mode (input_now t m e xs w) (output_now t m ss us w) t)) ≡ true
+pub record TurnOver (most mode k t m e : ℕ) (ss xs us : List Edit) (w : Stage) (xs' : List Edit) : Type 0 where
+  pub large_is : rows_too_large most w.fixes (rows_in k (round_at mode (input_now t m e xs w) (output_now t m ss us w) t)) ≡ true
+  pub crosses : (round_at mode (input_now t m e xs w) (output_now t m ss us w) t).crossed ≡ true
+  pub held_is : (n : ℕ) × (take n xs' ≡ input_now t m e xs w)
+  pub ahead_is : (n : ℕ) × (part n e xs' ≡ past (up_to t) (part w.at e xs))
+  pub out_is : (n : ℕ) × (drop n ss ≡ past (up_to t) (drop w.out ss))
 
 pub record RoundsAsk (most : ℕ) (moments far : List ℕ) (e : ℕ) (sv st : List ℕ) (sd : List ℤ) (xv xt : List ℕ) (xd : List ℤ) (uv ut : List ℕ) (ud : List ℤ) (iv : List ℕ) (id : List ℤ) (ov : List ℕ) (od : List ℤ) (cv : List ℕ) (cd : List ℤ) (marks fk fv ft : List ℕ) (fd : List ℤ) (fixes : ℕ) : Type 0 where
   pub few : length moments ≤ most_moments

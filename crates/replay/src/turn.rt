@@ -41,7 +41,7 @@ pub fn turn_replayed(
     w: Stage,
 ) -> Result<Stage, TooLarge>
     requires { TurnAsks (length fk.old) e sv.now st.now sd.now xv.old xt.old xd.old uv.old ut.old ud.old iv.old id.old ov.old od.old cv.old cd.old fk.old fv.old ft.old fd.old w }
-    ensures { MatchResult result (λ r. TurnTaken (length fk.old) (mode_number mode) key.0 t.0 m.0 e (edits sv.now st.now sd.now) (edits xv.old xt.old xd.old) (edits uv.old ut.old ud.old) w r (edits xv.new xt.new xd.new) (edits uv.new ut.new ud.new) fk.old fv.old ft.old fd.old fk.new fv.new ft.new fd.new) (λ _. TurnOver (length fk.old) (mode_number mode) key.0 t.0 m.0 e (edits sv.now st.now sd.now) (edits xv.old xt.old xd.old) (edits uv.old ut.old ud.old) w) }
+    ensures { MatchResult result (λ r. TurnTaken (length fk.old) (mode_number mode) key.0 t.0 m.0 e (edits sv.now st.now sd.now) (edits xv.old xt.old xd.old) (edits uv.old ut.old ud.old) w r (edits xv.new xt.new xd.new) (edits uv.new ut.new ud.new) fk.old fv.old ft.old fd.old fk.new fv.new ft.new fd.new) (λ _. TurnOver (length fk.old) (mode_number mode) key.0 t.0 m.0 e (edits sv.now st.now sd.now) (edits xv.old xt.old xd.old) (edits uv.old ut.old ud.old) w (edits xv.new xt.new xd.new)) }
 {
     let x = gather_within(t, m, w.at, e, w.held, xv, xt, xd, cv, iv, ov, od);
     let u = gather_from(

@@ -1,5 +1,5 @@
 // The answer of a call, written to result memory.
-ghost use Rattle.std.specs.Prelude.{take};
+ghost use Rattle.std.specs.Prelude.{◌≡◌, length, take};
 ghost use Rattle.requests.specs.Memory.{SameResults};
 ghost use Rattle.results.specs.Told.{Ready, Published};
 
@@ -38,6 +38,7 @@ pub fn publish(
     requires { Ready fixes.now.keys.now fixes.now.values.now fixes.now.times.now fixes.now.diffs.now n pending.now.keys.now pending.now.times.now m frontier.now f.now.lower.now f.now.upper.now f.now.held.now scratch.tiles.now scratch.places.now scratch.work.now results.old.numbers.now results.old.diffs.now }
     ensures told { Published (take n fixes.now.keys.now) (take n fixes.now.values.now) (take n fixes.now.times.now) (take n fixes.now.diffs.now) (take m pending.now.keys.now) (take m pending.now.times.now) frontier.now f.now.lower.now f.now.upper.now f.now.held.now results.old.numbers.now results.new.numbers.now results.old.diffs.now results.new.diffs.now result }
     ensures same { SameResults results.old results.new }
+    ensures kept { (length scratch.exit.0.now ≡ length scratch.entry.tiles.now) × ((length scratch.exit.1.0.now ≡ length scratch.entry.places.now) × (length scratch.exit.1.1.0.now ≡ length scratch.entry.work.now)) }
 {
     let Scratch {
         tiles: beside,

@@ -15,9 +15,16 @@ pub fn append_edits(
     requires { Lays values.now times.now diffs.now yv.old yt.old yd.old at }
     ensures { Rows yv.old yt.old yd.old at (edits values.now times.now diffs.now) yv.new yt.new yd.new result }
 {
-    let end = at + values.len();
-    yv[at..end].copy_from_slice(values);
-    yt[at..end].copy_from_slice(times);
-    yd[at..end].copy_from_slice(diffs);
-    end
+    let mut i = 0;
+    let mut k = at;
+    // There is mostly one to append, for which this costs less than a copy of each column.
+    while i < values.len() {
+        yv[k] = values[i];
+        yt[k] = times[i];
+        let d = diffs[i];
+        yd[k] = d;
+        i += 1;
+        k += 1;
+    }
+    k
 }

@@ -5,7 +5,7 @@
 -- level: three columns are of one length. roomy: the four columns of results are long enough. lent_well: columns and memory are as long as they must be
 -- small_diff: a diff is from -2^20 to 2^20
 -- status_before: the status that a call has before any work
--- status_of r: the status of an answer, 0 where it is not refused. count_of r: how many pairs it tells, 0 where it is refused
+-- refusal_status e: the status of a refusal. status_of r: the status of an answer, 0 where it is not refused. count_of r: how many pairs it tells, 0 where it is refused
 -- Called w …: the answer w was given, and the four columns hold what it leaves
 -- emissions: what four columns hold
 use Rattle.std.specs.Prelude.{ℕ, ◌≤◌, Bool, cond, ◌&&◌, List, [], ◌∷◌, map, ◌≡◌, eqb, leb, ℤ, pos, nat_abs, length, take, Result, Ok, Err}
@@ -49,11 +49,14 @@ unfoldable pub status_before : Bool → List Edit → List Edit → ℕ
 status_before lent as' bs = cond lent (cond (good_wave_run as' && good_wave_run bs) 0 14) 11
 
 -- ---- the answer
+abbrev pub refusal_status : Refusal → ℕ
+refusal_status Short = 11
+refusal_status Unfit = 14
+refusal_status Over = 18
+
 abbrev pub status_of : {A : Type 0} → Result A Refusal → ℕ
 status_of (Ok x) = 0
-status_of (Err Short) = 11
-status_of (Err Unfit) = 14
-status_of (Err Over) = 18
+status_of (Err e) = refusal_status e
 
 abbrev pub count_of : Result ℕ Refusal → ℕ
 count_of (Ok n) = n

@@ -3,7 +3,7 @@ ghost use Rattle.std.specs.Prelude.{true, ◌≡◌};
 ghost use Rattle.rules.specs.Wave.{wave_call};
 ghost use Rattle.rules.proofs.Wave.{WaveRun};
 ghost use Rattle.edits.specs.Edits.{edits, Alike};
-ghost use Rattle.wave.specs.Calls.{roomy, lent_well, Called};
+ghost use Rattle.wave.specs.Calls.{roomy, lent_well, refusal_status, Called};
 
 use crate::checks::check;
 use crate::loads::emit_all;
@@ -18,6 +18,19 @@ pub enum Refusal {
     Unfit,
     // 18: over MOST_EMISSIONS pairs.
     Over,
+}
+
+impl Refusal {
+    // The number of its status.
+    pub fn status(self) -> u64
+        ensures { result ≡ refusal_status self }
+    {
+        match self {
+            Refusal::Short => 11,
+            Refusal::Unfit => 14,
+            Refusal::Over => 18,
+        }
+    }
 }
 
 // A call that passed the checks.

@@ -1,7 +1,7 @@
-use mathlib.Core.Path.{sym}
-use Rattle.backends.proofs.Walk.{in_left, in_right, in_both, neg_fits, neg_stored, one_fits, one_stored, one_other, one_zero, take_left, take_right, take_both, take_neither, pass_over, differing_end}
+use mathlib.Core.Path.{sym, ◌∙◌}
+use Rattle.backends.proofs.Walk.{in_left, in_right, in_both, diff_small, stored_neg, stored_less, take_left, take_right, take_both, take_neither, pass_over, differing_end}
 use Rattle.backends.proofs.correction.differ.Goals as goal
-use Rattle.backends.proofs.correction.differ.Goals.{then-e-ne0, else-e-ne0}
+use Rattle.backends.proofs.correction.differ.Goals.{then-not-is_zero, else-not-is_zero}
 
 pub bounds-iv-i : goal.bounds-iv-i
 bounds-iv-i c = in_left c.loop-i.invariant (sym c.in-Input.ensures)
@@ -15,30 +15,30 @@ bounds-ov-j c = (in_right c.loop-i.invariant c.loop-i-test.true (sym c.in-Output
 pub bounds-od-j : goal.bounds-od-j
 bounds-od-j c = (in_right c.loop-i.invariant c.loop-i-test.true (sym c.in-Output.ensures)).1
 
-pub overflow_sub-cd : goal.overflow_sub-cd
-overflow_sub-cd c = neg_fits c.loop-i.invariant (in_right c.loop-i.invariant c.loop-i-test.true (sym c.in-Output.ensures)).1
+pub negated-requires : goal.negated-requires
+negated-requires c = diff_small c.loop-i.invariant (in_right c.loop-i.invariant c.loop-i-test.true (sym c.in-Output.ensures)).1
 
 pub loop-i-preserved-in-Output : goal.loop-i-preserved-in-Output
 loop-i-preserved-in-Output c =
-    take_right c.loop-i.invariant _ (neg_stored c.loop-i.invariant (in_right c.loop-i.invariant c.loop-i-test.true (sym c.in-Output.ensures)).1) c.loop-i-test.true (sym c.in-Output.ensures)
+    take_right c.loop-i.invariant _ (stored_neg c.loop-i.invariant (in_right c.loop-i.invariant c.loop-i-test.true (sym c.in-Output.ensures)).1 c.negated.type_inv c.negated.ensures) c.loop-i-test.true (sym c.in-Output.ensures)
 
 pub bounds-od-j-in-Both : goal.bounds-od-j-in-Both
 bounds-od-j-in-Both c = (in_both c.loop-i.invariant c.loop-i-test.true (sym c.in-Both.ensures)).1.1
 
-pub overflow_sub-e : goal.overflow_sub-e
-overflow_sub-e c = one_fits c.loop-i.invariant (in_both c.loop-i.invariant c.loop-i-test.true (sym c.in-Both.ensures)).1.1
+pub one_less-e-requires : goal.one_less-e-requires
+one_less-e-requires c = diff_small c.loop-i.invariant (in_both c.loop-i.invariant c.loop-i-test.true (sym c.in-Both.ensures)).1.1
 
-pub bounds-iv-i-then-e-ne0 : goal.bounds-iv-i-then-e-ne0
-bounds-iv-i-then-e-ne0 c = (in_both c.loop-i.invariant c.loop-i-test.true (sym c.in-Both.ensures)).0
+pub bounds-iv-i-then-not-is_zero : goal.bounds-iv-i-then-not-is_zero
+bounds-iv-i-then-not-is_zero c = (in_both c.loop-i.invariant c.loop-i-test.true (sym c.in-Both.ensures)).0
 
 pub loop-i-preserved-in-Both : goal.loop-i-preserved-in-Both
 loop-i-preserved-in-Both c =
     let b = sym c.in-Both.ensures in
     let h = (in_both c.loop-i.invariant c.loop-i-test.true b).1.1 in
-    let d = one_stored c.loop-i.invariant h in
-    elim c.if-e-ne0.branch [
-      | then-e-ne0 w ↦ rw (w.cv-is, w.cd-is, w.k-is) (take_both c.loop-i.invariant _ d (one_other c.loop-i.invariant h w.if-e-ne0.true) c.loop-i-test.true b)
-      | else-e-ne0 w ↦ rw (w.cv-is, w.cd-is, w.k-is) (take_neither c.loop-i.invariant _ d (one_zero c.loop-i.invariant h w.if-e-ne0.false) c.loop-i-test.true b)
+    let d = stored_less c.loop-i.invariant h c.one_less-e.type_inv c.one_less-e.ensures in
+    elim c.if-not-is_zero.branch [
+      | then-not-is_zero w ↦ rw (w.cv-is, w.cd-is, w.k-is) (take_both c.loop-i.invariant _ d (sym c.is_zero.ensures ∙ w.if-not-is_zero.true) c.loop-i-test.true b)
+      | else-not-is_zero w ↦ rw (w.cv-is, w.cd-is, w.k-is) (take_neither c.loop-i.invariant _ d (sym c.is_zero.ensures ∙ w.if-not-is_zero.false) c.loop-i-test.true b)
     ]
 
 pub loop-i-preserved : goal.loop-i-preserved

@@ -1,6 +1,5 @@
 use Rattle.std.proofs.Common.{rules, ◌+◌, length, eqb, ap, ◌∙◌}
 use Rattle.std.proofs.lemmas.Iterator.{YieldsList-from_slice}
-use Rattle.std.proofs.lemmas.Iterator.Adapters.{YieldsList-from_skip}
 use Rattle.std.proofs.lemmas.Iterator.Consumers.{count_from_yields_List}
 use Rattle.std.proofs.lemmas.Iterator.Search.{YieldsList-from_take_while}
 use borrow.Author.Tests.{tests}
@@ -9,7 +8,8 @@ use Rattle.keys.proofs.parts.end_equal.Goals as goal
 
 pub returns : goal.returns
 returns c =
-    ap (λ k. c.args.start + k)
+    rw c.rest.ensures at
+    (ap (λ k. c.args.start + k)
     (count_from_yields_List _ _ c.count.ensures.ran
-    (YieldsList-from_take_while _ (eqb c.args.key.0) (YieldsList-from_skip c.args.start (YieldsList-from_slice c.args.keys.now cc) (cc)) c.take_while.ensures.closure c.take_while.ensures.done (λ x b q k. search (rules, tests)))
-    ∙ ap length (take_while_front (eqb c.args.key.0) _))
+    (YieldsList-from_take_while _ (eqb c.args.key.0) (YieldsList-from_slice c.rest.result.now cc) c.take_while.ensures.closure c.take_while.ensures.done (λ x b q k. search (rules, tests)))
+    ∙ ap length (take_while_front (eqb c.args.key.0) _)))
