@@ -1,8 +1,8 @@
 -- Putting a time into a set where halving finds its place.
 --
--- rising: a set ascends. inserted_same: the time stands there already
--- inserted_new: it does not, and the later elements are turned by one, with the time at their end
-use Prim.Native.Nat.{ℕ, zero, suc, ◌≤◌, ◌<◌, ◌+◌, ◌-◌}
+-- rising: a set ascends. Halving: what the loop keeps that halves it. halving_down, belongs_next: a later half is greater, and the place after one that is less
+-- inserted_same: the time stands there already. inserted_new: it does not, and the later elements are turned by one, with the time at their end
+use Prim.Native.Nat.{ℕ, zero, suc, ◌≤◌, ◌<◌, ◌+◌, ◌-◌, ◌/◌}
 use native.Mathlib.Omega.{arith}
 use native.Mathlib.Numerals.{add-one}
 use mathlib.Core.Bool.{true}
@@ -20,7 +20,7 @@ use Rattle.grid.proofs.Consolidate.{strict_ltb}
 use Rattle.grid.proofs.Loops.{all_get_d}
 use Rattle.grid.proofs.Ascending.{ascending_rest, ascending_above}
 use Rattle.grid.proofs.Sort.{Sorted, none, more}
-use Rattle.distinct.specs.Sets.{Inserted}
+use Rattle.distinct.specs.Sets.{BelongsAt, Inserted}
 
 sorted_ascending : (l : List ℕ) → ascending ltb l ≡ true → Sorted ltb l
 sorted_ascending [] e = none
@@ -43,6 +43,37 @@ rises (x ∷ l) s (suc i) (suc j) h k = rises l (sorted_rest s) i j (omega arith
 
 pub rising : (l : List ℕ) → ascending ltb l ≡ true → (i j : ℕ) → i ≤ j → j < length l → get_or l i 0 ≤ get_or l j 0
 rising l e = rises l (sorted_ascending l e)
+
+-- ---- the loop: past the size elements from place on all are greater than t, and the one at place, once it is not the first, is not
+pub record Halving (t : ℕ) (l : List ℕ) (place here size : ℕ) : Type 0 where
+  pub some : 1 ≤ size
+  pub within : place + size ≤ length l
+  pub here_is : here ≡ get_or l place 0
+  pub reached : 0 < place → here ≤ t
+  pub above : (k : ℕ) → place + size ≤ k → k < length l → t < get_or l k 0
+
+module _ {t : ℕ} {l : List ℕ} {place here size : ℕ} (a : ascending ltb l ≡ true) (m : Halving t l place here size) where
+  pub halving_down : 1 < size → t < get_or l (place + size / 2) 0 → Halving t l place here (size - size / 2)
+  halving_down h g =
+      let w : place + size ≤ length l = m.within in
+      record {
+        some = omega arith;
+        within = omega arith;
+        here_is = m.here_is;
+        reached = m.reached;
+        above = λ k p q. let r : get_or l (place + size / 2) 0 ≤ get_or l k 0 = rising l a (place + size / 2) k (omega arith) q in omega arith;
+      }
+
+  pub belongs_next : size ≤ 1 → here < t → BelongsAt t l (place + 1)
+  belongs_next h g =
+      let s : 1 ≤ size = m.some in
+      let w : place + size ≤ length l = m.within in
+      let e : here ≡ get_or l place 0 = m.here_is in
+      record {
+        within = omega arith;
+        below = λ k p. let r : get_or l k 0 ≤ get_or l place 0 = rising l a k place (omega arith) (omega arith) in omega arith;
+        above = λ k p q. m.above k (omega arith) q;
+      }
 
 -- ---- putting
 put_here : (t : ℕ) (l : List ℕ) (i : ℕ) → Sorted ltb l → i < length l → get_or l i 0 ≡ t → put t l ≡ l

@@ -28,7 +28,6 @@ pub fn answer_fully(
     ensures same { SameResults results.old results.new }
 {
     let mut keys = [0u64; 8192];
-    let n = changed_keys(q.new.keys, q.pending.keys, &mut keys);
     let mut uv = [0u64; 8192];
     let mut ut = [0u64; 8192];
     let mut ud = [0i64; 8192];
@@ -47,6 +46,7 @@ pub fn answer_fully(
     let mut fv = [0u64; 4096];
     let mut ft = [0u64; 4096];
     let mut fd = [0i64; 4096];
+    let n = changed_keys(q.new.keys, q.pending.keys, &mut keys);
     let c = work_windows(
         mode,
         q.width as usize,

@@ -18,8 +18,7 @@ pub struct Counts {
     pub pended: usize,
 }
 
-// Puts t into a set that has not passed the limit. Most buffers of a step are empty, so what walks them is kept small.
-#[inline(never)]
+// Puts t into a set that has not passed the limit.
 pub fn put_time(s: &mut [u64], count: usize, t: PackedTime) -> usize
     requires { Set s.old count }
     ensures { Put t.0 s.old count s.new result }

@@ -1,6 +1,6 @@
 use Rattle.std.proofs.Common.{arith, refl, sym}
 use lib.Seq.{length-take-le}
-use Rattle.concluding.proofs.Answering.{keys_asked, keys_many, keys_are, loops, lent-work, concludes, answers-call}
+use Rattle.concluding.proofs.Answering.{keys_asked, keys_many, keys_are, loops, lent-work, answers-call}
 use Rattle.full.proofs.answer_fully.Goals as goal
 
 pub changed_keys-n-requires : goal.changed_keys-n-requires
