@@ -30,7 +30,7 @@ use Rattle.gather.specs.Meets.{meet_of, meets_of}
 use Rattle.gather.specs.Loads.{Timely}
 use Rattle.gather.specs.Gather.{up_to}
 use Rattle.gather.proofs.Under.{meet-under}
-use Rattle.replay.specs.Replay.{Staged, TurnAsks, TurnTaken, TurnOver, RoundsAsk, input_now, output_now}
+use Rattle.replay.specs.Replay.{Staged, TurnAsks, TurnTaken, RoundsAsk, input_now, output_now}
 use Rattle.replay.specs.declared.Stage.{Stage}
 use Rattle.replay.proofs.Turning.{turn_rounds}
 
@@ -74,11 +74,11 @@ module _ (mode k m : ℕ) {most t e : ℕ} {ss xs us : List Edit} {w : Stage} (s
       ∙ turn_rounds mode t m (take w.held xs) (part w.at e xs) (take w.output us) (drop w.out ss) (drop (j + 1) moments)
       (subst (All (λ u. below m u ≡ true)) moments_are b) s.input_timely s.output_timely
 
-  turn_over : {all : List Round} {xs' : List Edit} {n : ℕ} {marks₀ marks fk₀ fv₀ ft₀ : List ℕ} {fd₀ : List ℤ} {fk fv ft : List ℕ} {fd : List ℤ}
-      → Left most k all (rounds_left mode e ss xs us moments j w) j n w.fixes marks₀ marks fk₀ fv₀ ft₀ fd₀ fk fv ft fd → TurnOver most mode k t m e ss xs us w xs'
+  turn_over : {all : List Round} {n : ℕ} {marks₀ marks fk₀ fv₀ ft₀ : List ℕ} {fd₀ : List ℤ} {fk fv ft : List ℕ} {fd : List ℤ}
+      → Left most k all (rounds_left mode e ss xs us moments j w) j n w.fixes marks₀ marks fk₀ fv₀ ft₀ fd₀ fk fv ft fd → rows_too_large most w.fixes (rows_in k x) ≡ true
       → rows_too_large most n (flat (rows_in k) all) ≡ true
-  turn_over {all} {xs'} {n} {marks₀} {marks} {fk₀} {fv₀} {ft₀} {fd₀} {fk} {fv} {ft} {fd} l o =
-      left_over (subst (λ (y : List Round). Left most k all y j n w.fixes marks₀ marks fk₀ fv₀ ft₀ fd₀ fk fv ft fd) left_is l) o.large_is
+  turn_over {all} {n} {marks₀} {marks} {fk₀} {fv₀} {ft₀} {fd₀} {fk} {fv} {ft} {fd} l o =
+      left_over (subst (λ (y : List Round). Left most k all y j n w.fixes marks₀ marks fk₀ fv₀ ft₀ fd₀ fk fv ft fd) left_is l) o
 
   module _ {r : Stage} {xs' us' : List Edit} {fk fv ft : List ℕ} {fd : List ℤ} {fk' fv' ft' : List ℕ} {fd' : List ℤ} (d : TurnTaken most mode k t m e ss xs us w r xs' us' fk fv ft fd fk' fv' ft' fd') where
     later_is : rest ≡ rounds_left mode e ss xs' us' moments (j + 1) r
@@ -172,11 +172,16 @@ module _ {most mode k : ℕ} {moments far : List ℕ} {e : ℕ} {sv st : List �
     pub playing_mark : j < length marks
     playing_mark = omega (arith, g.asks.few, g.left.long_marks, g.asks.memory.long_marks)
 
-    pub playing_over : {xs' : List Edit} → TurnOver (length fk) mode k (get_or moments j 0) (get_or far j 0) e (edits sv st sd) (edits xv xt xd) (edits uv ut ud) w xs'
-        → KeyOver most mode k (take e (edits xv₀ xt₀ xd₀)) (edits sv st sd) moments fixes
-    playing_over {xs'} o =
+    abbrev round_now : Round
+    round_now =
+        let u = get_or moments j 0 in
+        let m = get_or far j 0 in
+        round_at mode (input_now u m e (edits xv xt xd) w) (output_now u m (edits sv st sd) (edits uv ut ud) w) u
+
+    pub playing_over : rows_too_large (length fk) w.fixes (rows_in k round_now) ≡ true → KeyOver most mode k (take e (edits xv₀ xt₀ xd₀)) (edits sv st sd) moments fixes
+    playing_over o =
         turn_over mode k (get_or far j 0) g.staged moments j t refl (meets_under moments far j g.asks.meets_are t) g.left
-        (subst (λ (i : ℕ). TurnOver i mode k (get_or moments j 0) (get_or far j 0) e (edits sv st sd) (edits xv xt xd) (edits uv ut ud) w xs') g.lent.long_k o)
+        (subst (λ (i : ℕ). rows_too_large i w.fixes (rows_in k round_now) ≡ true) g.lent.long_k o)
 
     pub playing_more : {r : Stage} {xv' xt' : List ℕ} {xd' : List ℤ} {uv' ut' : List ℕ} {ud' : List ℤ} {iv' : List ℕ} {id' : List ℤ} {ov' : List ℕ} {od' : List ℤ} {cv' : List ℕ} {cd' : List ℤ} {marks' fk' fv' ft' : List ℕ} {fd' : List ℤ}
         → TurnTaken (length fk) mode k (get_or moments j 0) (get_or far j 0) e (edits sv st sd) (edits xv xt xd) (edits uv ut ud) w r (edits xv' xt' xd') (edits uv' ut' ud') fk fv ft fd fk' fv' ft' fd'
