@@ -53,7 +53,7 @@ pub fn sort_distinct(s: &mut [u64], w: &mut [u64]) -> usize
 }
 
 // Where t stands in an ascending list, or where it would, by halving. As the library's binary_search, but the element at the place goes along with it:
-// so a half is chosen without a branch, which would be guessed wrong every other time.
+// so a half is chosen without a branch, which is often guessed wrong.
 fn place_of(s: &[u64], t: u64) -> Result<usize, usize>
     requires { ascending ltb s.now ≡ true }
     ensures { MatchResult result (StandsAt t s.now) (BelongsAt t s.now) }
